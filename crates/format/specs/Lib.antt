@@ -1,0 +1,5 @@
+pub mod Fields
+pub mod Limits
+pub mod Words
+pub mod Policy
+pub mod PolicyWords
