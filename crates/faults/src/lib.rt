@@ -4,6 +4,8 @@ ghost use Rattle.faults.specs.Shows.{token-shown, grammar-shown, check-shown, 
 
 mod layers;
 
+use format::TEXT_LIMIT;
+use format::WORDS_LIMIT;
 pub use layers::CheckFault;
 pub use layers::CompileFault;
 pub use layers::CompileFromCheck;
@@ -11,8 +13,6 @@ pub use layers::CompileFromGrammar;
 pub use layers::GrammarFault;
 pub use layers::GrammarFromToken;
 pub use layers::TokenFault;
-use format::TEXT_LIMIT;
-use format::WORDS_LIMIT;
 
 // What a person is shown of a refusal: its number, the layer that refused, and the place.
 #[derive(Clone, Copy, Debug, PartialEq)]
@@ -28,8 +28,16 @@ impl TokenFault {
     {
         let layer = 1;
         match self {
-            TokenFault::NoToken(place) => Shown { number: 1, layer, place },
-            TokenFault::BigNumber(place) => Shown { number: 2, layer, place },
+            TokenFault::NoToken(place) => Shown {
+                number: 1,
+                layer,
+                place,
+            },
+            TokenFault::BigNumber(place) => Shown {
+                number: 2,
+                layer,
+                place,
+            },
         }
     }
 }
@@ -41,10 +49,26 @@ impl GrammarFault {
         let layer = 2;
         match self {
             GrammarFault::Token(fault) => fault.shown(),
-            GrammarFault::Unexpected(place) => Shown { number: 3, layer, place },
-            GrammarFault::TooDeep(place) => Shown { number: 4, layer, place },
-            GrammarFault::NoRoom(place) => Shown { number: 5, layer, place },
-            GrammarFault::LongText => Shown { number: 5, layer, place: TEXT_LIMIT },
+            GrammarFault::Unexpected(place) => Shown {
+                number: 3,
+                layer,
+                place,
+            },
+            GrammarFault::TooDeep(place) => Shown {
+                number: 4,
+                layer,
+                place,
+            },
+            GrammarFault::NoRoom(place) => Shown {
+                number: 5,
+                layer,
+                place,
+            },
+            GrammarFault::LongText => Shown {
+                number: 5,
+                layer,
+                place: TEXT_LIMIT,
+            },
         }
     }
 }
@@ -55,11 +79,31 @@ impl CheckFault {
     {
         let layer = 3;
         match self {
-            CheckFault::LongPolicy => Shown { number: 5, layer, place: WORDS_LIMIT },
-            CheckFault::BadWord(place) => Shown { number: 6, layer, place },
-            CheckFault::BadOperands(place) => Shown { number: 7, layer, place },
-            CheckFault::NoPredicate(place) => Shown { number: 8, layer, place },
-            CheckFault::TooMany(place) => Shown { number: 4, layer, place },
+            CheckFault::LongPolicy => Shown {
+                number: 5,
+                layer,
+                place: WORDS_LIMIT,
+            },
+            CheckFault::BadWord(place) => Shown {
+                number: 6,
+                layer,
+                place,
+            },
+            CheckFault::BadOperands(place) => Shown {
+                number: 7,
+                layer,
+                place,
+            },
+            CheckFault::NoPredicate(place) => Shown {
+                number: 8,
+                layer,
+                place,
+            },
+            CheckFault::TooMany(place) => Shown {
+                number: 4,
+                layer,
+                place,
+            },
         }
     }
 }

@@ -26,6 +26,7 @@ pub const WAITING_LIMIT: usize = 256;
 pub const COST_LIMIT: u32 = 65_535;
 
 const KIND_UNIT: u32 = 0x1000_0000;
+
 const FIELD_UNIT: u32 = 0x100_0000;
 
 // A word by its parts.
@@ -42,7 +43,11 @@ impl Word {
         ensures field { λ r. ⌜ r .field ≡ field-of bits ⌝ }
         ensures value { λ r. ⌜ r .value ≡ value-of bits ⌝ }
     {
-        Word { kind: bits / KIND_UNIT, field: bits / FIELD_UNIT % 16, value: bits % FIELD_UNIT }
+        Word {
+            kind: bits / KIND_UNIT,
+            field: bits / FIELD_UNIT % 16,
+            value: bits % FIELD_UNIT,
+        }
     }
 }
 
@@ -59,7 +64,11 @@ impl Setting {
         ensures some { λ r. ⌜ Cases r (Unit {0}) (λ s. (s .field ≡ field) × (s .value ≡ value)) ⌝ }
         ensures none { λ r. ⌜ Cases r (field < fields → LegalValue field value → ⊥) (λ _. Unit {0}) ⌝ }
     {
-        if field < FIELDS && value < range_of(field) { Some(Setting { field, value }) } else { None }
+        if field < FIELDS && value < range_of(field) {
+            Some(Setting { field, value })
+        } else {
+            None
+        }
     }
 }
 
@@ -68,7 +77,11 @@ impl Amount {
         ensures some { λ r. ⌜ Cases r (Unit {0}) (λ a. a .number ≡ number) ⌝ }
         ensures none { λ r. ⌜ Cases r (value-end ≤ number) (λ _. Unit {0}) ⌝ }
     {
-        if number < FIELD_UNIT { Some(Amount { number }) } else { None }
+        if number < FIELD_UNIT {
+            Some(Amount { number })
+        } else {
+            None
+        }
     }
 }
 
