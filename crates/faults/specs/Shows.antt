@@ -11,7 +11,7 @@ use Rattle.faults.specs.declared.layers.CheckFault.the-variants.{LongPolicy, B
 use Rattle.faults.specs.declared.layers.CompileFault.{CompileFault}
 use Rattle.faults.specs.declared.layers.CompileFault.the-variants.{Text, Check}
 
-abbrev shown : ℕ → ℕ → ℕ → Shown
+abbrev pub shown : ℕ → ℕ → ℕ → Shown
 shown n l p = record { number = n; layer = l; place = p }
 
 abbrev pub token-shown : TokenFault → Shown
