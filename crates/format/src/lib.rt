@@ -2,7 +2,7 @@
 ghost use mathlib.Core.Path.{_≡_};
 ghost use Prim.Native.Nat.{_<_, _≤_};
 ghost use Rattle.std.specs.Options.{Cases};
-ghost use Rattle.format.specs.Fields.{fields, range, LegalValue};
+ghost use Rattle.format.specs.Fields.{fields, field-name, range, LegalValue};
 ghost use Rattle.format.specs.Words.{value-end, kind-of, field-of, value-of};
 ghost use Rattle.format.specs.PolicyWords.{bits-of, LegalWord};
 
@@ -56,6 +56,22 @@ fn range_of(_field: u32) -> u32
     ensures { λ r. ⌜ r ≡ range «_field» ⌝ }
 {
     FIELD_UNIT
+}
+
+// What a field is called in texts and records.
+pub fn field_name(field: u32) -> &'static [u8]
+    ensures { λ r. ⌜ now r ≡ field-name field ⌝ }
+{
+    match field {
+        0 => b"sw",
+        1 => b"pt",
+        2 => b"vlan",
+        3 => b"type",
+        4 => b"srch",
+        5 => b"srcl",
+        6 => b"dsth",
+        _ => b"dstl",
+    }
 }
 
 impl Setting {

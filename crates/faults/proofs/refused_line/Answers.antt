@@ -1,13 +1,13 @@
 use mathlib.Core.List.{[], _∷_}
 use lib.Chars.{codes}
 use Rattle.std.specs.Written.{decimal}
-use Rattle.faults.proofs.Pieces.{seven-pieces}
+use Rattle.numerals.proofs.Pieces.{six-pieces}
 use Rattle.faults.proofs.refused_line.Needs as need
 
 pub returns : need.returns
 returns c =
     let s = c .args .shown
-    in seven-pieces
+    in six-pieces
     (codes "refused ")
     (decimal (s .number))
     (codes " layer ")
