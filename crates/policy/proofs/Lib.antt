@@ -1,0 +1,4 @@
+pub mod Operands
+pub mod Growth
+pub mod Stacks
+pub mod Marking

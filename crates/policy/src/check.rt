@@ -1,0 +1,71 @@
+// Which words are a legal policy.
+ghost use mathlib.Core.Path.{_≡_};
+ghost use mathlib.Core.List.{[], _∷_};
+ghost use Prim.Native.Nat.{_≤_};
+ghost use lib.ListN.{length};
+ghost use Rattle.std.specs.Results.{Cases};
+ghost use Rattle.format.specs.Limits.{waiting-limit};
+ghost use Rattle.faults.specs.declared.layers.CheckFault.the-variants.{BadOperands, TooMany};
+ghost use Rattle.policy.specs.Flags.{flags, Marks, Blocked};
+use faults::CheckFault;
+use format::PolicyWord;
+use format::WAITING_LIMIT;
+use crate::waiting::Waiting;
+
+impl Waiting {
+    fn none() -> Waiting
+        ensures { λ r. ⌜ flags r ≡ [] ⌝ }
+    {
+        Waiting {
+            predicates: [false; WAITING_LIMIT],
+            count: 0,
+        }
+    }
+
+    fn push(&mut self, predicate: bool, place: usize) -> Result<(), CheckFault>
+        ensures { λ r. ⌜ Cases r (λ _. flags (now (self .exit)) ≡ predicate ∷ flags (now (self .entry))) (λ e. (e ≡ TooMany place) × (waiting-limit ≤ length (flags (now (self .entry))))) ⌝ }
+    {
+        if self.count == WAITING_LIMIT {
+            return Err(CheckFault::TooMany(place));
+        }
+        self.predicates[self.count] = predicate;
+        self.count += 1;
+        Ok(())
+    }
+
+    fn pop(&mut self, place: usize) -> Result<bool, CheckFault>
+        ensures { λ r. ⌜ Cases r (λ b. flags (now (self .entry)) ≡ b ∷ flags (now (self .exit))) (λ e. (e ≡ BadOperands place) × (flags (now (self .entry)) ≡ [])) ⌝ }
+    {
+        if self.count == 0 {
+            return Err(CheckFault::BadOperands(place));
+        }
+        self.count -= 1;
+        Ok(self.predicates[self.count])
+    }
+
+    // The word at this place takes its operands and waits as an operand itself.
+    fn accept(&mut self, word: PolicyWord, place: usize) -> Result<(), CheckFault>
+        ensures { λ r. ⌜ Cases r (λ _. Marks word (flags (now (self .entry))) (flags (now (self .exit)))) (Blocked word place (flags (now (self .entry)))) ⌝ }
+    {
+        let predicate = match word {
+            PolicyWord::Drop | PolicyWord::Pass | PolicyWord::Test(_) => true,
+            PolicyWord::Set(_) | PolicyWord::Cost(_) => false,
+            PolicyWord::Not => {
+                if !self.pop(place)? {
+                    return Err(CheckFault::NoPredicate(place));
+                }
+                true
+            }
+            PolicyWord::Union | PolicyWord::Sequence => {
+                let right = self.pop(place)?;
+                let left = self.pop(place)?;
+                left && right
+            }
+            PolicyWord::Star => {
+                self.pop(place)?;
+                false
+            }
+        };
+        self.push(predicate, place)
+    }
+}
