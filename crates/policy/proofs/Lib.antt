@@ -2,3 +2,5 @@ pub mod Operands
 pub mod Growth
 pub mod Stacks
 pub mod Marking
+pub mod Verdicts
+pub mod Determinism

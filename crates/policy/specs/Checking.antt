@@ -19,6 +19,10 @@ pub record Accepted (ws : List ℕ) (p : Policy) : Type 0 where
   pub short : length ws ≤ words-limit
   pub shallow : Shallow ws (length ws)
 
+-- the words are those of some legal policy, within the limits
+abbrev pub LegalWords : List ℕ → Type 0
+LegalWords ws = ∥ ((p : Policy) × Accepted ws p) ∥₁
+
 -- nothing is wrong with the first i words: some legal policy begins with them, and no limit is passed
 pub record Fine (ws : List ℕ) (i : ℕ) : Type 0 where
   pub short : length ws ≤ words-limit
@@ -78,8 +82,14 @@ Refused ws (BadOperands i) = Lacking ws i ⊎ Unfinished ws i
 Refused ws (NoPredicate i) = Unnegatable ws i
 Refused ws (TooMany i) = Overfull ws i
 
--- words are accepted or refused, never both, as one policy only, and with one fault only
+-- words have one verdict only, and what is said here of their beginnings is clear
 pub record Determined (ws : List ℕ) : Type 0 where
-  pub one-policy : (p q : Policy) → Accepted ws p → Accepted ws q → p ≡ q
+  -- words are those of at most one legal policy, or of one list of waiting operands
+  pub one-policy : (p q : Policy) → Legal p → Legal q → postfix p ≡ ws → postfix q ≡ ws → p ≡ q
+  pub one-waiting : (i : ℕ) (ps qs : List Policy) → Waits (take i ws) ps → Waits (take i ws) qs → ps ≡ qs
+  -- a legal policy begins with some words exactly if these leave legal operands waiting
+  pub viable-waits : (i : ℕ) → Viable (take i ws) → (ps : List Policy) × Waits (take i ws) ps
+  pub waits-viable : (i : ℕ) (ps : List Policy) → Waits (take i ws) ps → Viable (take i ws)
+  -- no words are both accepted and refused, or refused with two faults
   pub one-fault : (f g : CheckFault) → Refused ws f → Refused ws g → f ≡ g
-  pub not-both : (p : Policy) (f : CheckFault) → Accepted ws p → Refused ws f → ⊥
+  pub not-both : (f : CheckFault) → LegalWords ws → Refused ws f → ⊥

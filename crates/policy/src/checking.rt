@@ -6,10 +6,14 @@ ghost use lib.ListN.{length};
 ghost use Rattle.std.specs.Results.{Cases};
 ghost use Rattle.format.specs.Limits.{waiting-limit};
 ghost use Rattle.faults.specs.declared.layers.CheckFault.the-variants.{BadOperands, TooMany};
+ghost use Rattle.policy.specs.Checking.{LegalWords, Refused, Determined};
+ghost use Rattle.policy.specs.Checked.{policy-words};
 ghost use Rattle.policy.specs.Flags.{flags, Marks, Blocked};
 use faults::CheckFault;
 use format::PolicyWord;
 use format::WAITING_LIMIT;
+use format::WORDS_LIMIT;
+use crate::checked::CheckedPolicy;
 use crate::waiting::Waiting;
 
 impl Waiting {
@@ -20,6 +24,13 @@ impl Waiting {
             predicates: [false; WAITING_LIMIT],
             count: 0,
         }
+    }
+
+    // How many operands wait.
+    fn len(&self) -> usize
+        ensures { λ r. ⌜ r ≡ length (flags (now (self .entry))) ⌝ }
+    {
+        self.count
     }
 
     fn push(&mut self, predicate: bool, place: usize) -> Result<(), CheckFault>
@@ -68,4 +79,25 @@ impl Waiting {
         };
         self.push(predicate, place)
     }
+}
+
+// The policy of these words, or why they are refused.
+pub fn check(words: &[u32]) -> Result<CheckedPolicy, CheckFault>
+    ensures verdict { λ r. ⌜ Cases r (λ c. (policy-words c ≡ now (words .entry)) × LegalWords (now (words .entry))) (Refused (now (words .entry))) ⌝ }
+    ensures determined { λ _. ⌜ Determined (now (words .entry)) ⌝ }
+{
+    if words.len() > WORDS_LIMIT {
+        return Err(CheckFault::LongPolicy);
+    }
+    let mut waiting = Waiting::none();
+    for (place, bits) in words.iter().enumerate() {
+        let Some(word) = PolicyWord::decode(*bits) else {
+            return Err(CheckFault::BadWord(place));
+        };
+        waiting.accept(word, place)?;
+    }
+    if waiting.len() != 1 {
+        return Err(CheckFault::BadOperands(words.len()));
+    }
+    Ok(CheckedPolicy::of(words))
 }
