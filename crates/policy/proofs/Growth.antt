@@ -12,8 +12,24 @@ use Rattle.format.specs.Limits.{cost-limit}
 use Rattle.format.specs.Policy.{Policy, postfix, Predicate, Legal}
 use Rattle.format.specs.PolicyWords.{bits-of, LegalWord}
 use Rattle.format.specs.declared.settings.PolicyWord.{PolicyWord}
-use Rattle.policy.specs.Waiting.{spelled, AllLegal, Waits, Viable, Grows, operands}
+use Rattle.policy.specs.Waiting.{spelled, AllLegal, Waits, Viable, operands}
 use Rattle.policy.proofs.Operands.{waits-before, waits-unique, after, after-parts, kids, root, spelled-root, not-empty, some-wait}
+
+-- the word w makes of the waiting operands ps the waiting operands qs
+abbrev pub Grows : PolicyWord → List Policy → List Policy → Type 0
+Grows PolicyWord.Drop ps qs = qs ≡ Policy.Drop ∷ ps
+Grows PolicyWord.Pass ps qs = qs ≡ Policy.Pass ∷ ps
+Grows (PolicyWord.Test s) ps qs = qs ≡ Policy.Test (s .field) (s .value) ∷ ps
+Grows (PolicyWord.Set s) ps qs = qs ≡ Policy.Set (s .field) (s .value) ∷ ps
+Grows (PolicyWord.Cost a) ps qs = qs ≡ Policy.Cost (a .number) ∷ ps
+Grows PolicyWord.Not ps qs =
+    (p : Policy) × (rest : List Policy) × Predicate p × (ps ≡ p ∷ rest) × (qs ≡ Policy.Not p ∷ rest)
+Grows PolicyWord.Union ps qs =
+    (p : Policy) × (q : Policy) × (rest : List Policy) × (ps ≡ q ∷ p ∷ rest) × (qs ≡ Policy.Union p q ∷ rest)
+Grows PolicyWord.Sequence ps qs =
+    (p : Policy) × (q : Policy) × (rest : List Policy) × (ps ≡ q ∷ p ∷ rest) × (qs ≡ Policy.Sequence p q ∷ rest)
+Grows PolicyWord.Star ps qs =
+    (p : Policy) × (rest : List Policy) × (ps ≡ p ∷ rest) × (qs ≡ Policy.Star p ∷ rest)
 
 -- operands that a word makes wait after the word
 put : (ws : List ℕ) (ps qs : List Policy) (q : Policy) → Waits ws (kids q ++ ps) → AllLegal (q ∷ ps) → qs ≡ q ∷ ps → Waits (ws ++ (root q ∷ [])) qs

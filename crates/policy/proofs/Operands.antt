@@ -13,7 +13,7 @@ use Rattle.format.specs.Policy.{Policy, postfix, Predicate, Legal}
 use Rattle.format.specs.Policy.Policy.{Drop, Pass, Test, Set, Cost, Not, Union, Sequence, Star}
 use Rattle.format.specs.PolicyWords.{bits-of, LegalWord}
 use Rattle.format.specs.declared.settings.PolicyWord.{PolicyWord}
-use Rattle.policy.specs.Waiting.{spelled, AllLegal, Waits, Viable, Grows, operands}
+use Rattle.policy.specs.Waiting.{spelled, AllLegal, Waits, Viable}
 
 -- the operands of a policy's last word, the last one first
 abbrev pub kids : Policy → List Policy

@@ -14,11 +14,11 @@ use Rattle.format.specs.PolicyWords.{bits-of, LegalWord}
 use Rattle.format.specs.declared.settings.PolicyWord.{PolicyWord}
 use Rattle.faults.specs.declared.layers.CheckFault.{CheckFault}
 use Rattle.faults.specs.declared.layers.CheckFault.the-variants.{LongPolicy, BadWord, BadOperands, NoPredicate, TooMany}
-use Rattle.policy.specs.Waiting.{spelled, AllLegal, Waits, Viable, Shallow, Grows, operands}
+use Rattle.policy.specs.Waiting.{spelled, AllLegal, Waits, Viable, Shallow, operands}
 use Rattle.policy.specs.Flags.{Marks, Blocked}
 use Rattle.policy.specs.Checking.{Accepted, LegalWords, Fine, Stuck, NoWord, Lacking, Unfinished, Unnegatable, Overfull, Refused}
 use Rattle.policy.proofs.Operands.{waits-unique, viable-waits, waits-viable}
-use Rattle.policy.proofs.Growth.{grows-waits, waits-grows, grows-count, grows-enough, waits-word}
+use Rattle.policy.proofs.Growth.{Grows, grows-waits, waits-grows, grows-count, grows-enough, waits-word}
 
 abbrev pub is-predicate : Policy → Bool
 is-predicate Policy.Drop = true

@@ -4,7 +4,7 @@ use mathlib.Core.List.{List, [], _∷_, _++_}
 use Prim.Native.Nat.{ℕ, _≤_}
 use lib.ListN.{length, take}
 use Rattle.format.specs.Limits.{waiting-limit}
-use Rattle.format.specs.Policy.{Policy, postfix, Predicate, Legal}
+use Rattle.format.specs.Policy.{Policy, postfix, Legal}
 use Rattle.format.specs.declared.settings.PolicyWord.{PolicyWord}
 
 -- the words of operands, which stand here the last one first
@@ -43,19 +43,3 @@ operands PolicyWord.Not = 1
 operands PolicyWord.Union = 2
 operands PolicyWord.Sequence = 2
 operands PolicyWord.Star = 1
-
--- the word w makes of the waiting operands ps the waiting operands qs
-abbrev pub Grows : PolicyWord → List Policy → List Policy → Type 0
-Grows PolicyWord.Drop ps qs = qs ≡ Policy.Drop ∷ ps
-Grows PolicyWord.Pass ps qs = qs ≡ Policy.Pass ∷ ps
-Grows (PolicyWord.Test s) ps qs = qs ≡ Policy.Test (s .field) (s .value) ∷ ps
-Grows (PolicyWord.Set s) ps qs = qs ≡ Policy.Set (s .field) (s .value) ∷ ps
-Grows (PolicyWord.Cost a) ps qs = qs ≡ Policy.Cost (a .number) ∷ ps
-Grows PolicyWord.Not ps qs =
-    (p : Policy) × (rest : List Policy) × Predicate p × (ps ≡ p ∷ rest) × (qs ≡ Policy.Not p ∷ rest)
-Grows PolicyWord.Union ps qs =
-    (p : Policy) × (q : Policy) × (rest : List Policy) × (ps ≡ q ∷ p ∷ rest) × (qs ≡ Policy.Union p q ∷ rest)
-Grows PolicyWord.Sequence ps qs =
-    (p : Policy) × (q : Policy) × (rest : List Policy) × (ps ≡ q ∷ p ∷ rest) × (qs ≡ Policy.Sequence p q ∷ rest)
-Grows PolicyWord.Star ps qs =
-    (p : Policy) × (rest : List Policy) × (ps ≡ p ∷ rest) × (qs ≡ Policy.Star p ∷ rest)
