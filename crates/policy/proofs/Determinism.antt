@@ -1,21 +1,21 @@
 -- Words have one verdict only.
 use mathlib.Core.Path.{_≡_, refl, sym, ap, subst, _∙_}
-use mathlib.Core.Logic.{_⊎_, inl, inr, _≢_, ∥∥₁-elim}
+use mathlib.Core.Logic.{_⊎_, inl, inr, ∥∥₁-elim}
 use mathlib.Core.HLevel.{⊥-prop}
-use mathlib.Core.List.{List, [], _∷_, _++_}
+use mathlib.Core.List.{List, [], _∷_}
 use Prim.Native.Nat.{ℕ, _+_, _≤_, _<_}
 use native.Mathlib.Omega.{arith}
 use lib.ListN.{length, take, getD}
 use Rattle.std.proofs.shelf.Lists.{append-nil, take-all}
 use Rattle.std.proofs.shelf.Tests.{cases-lt}
-use Rattle.format.specs.Limits.{words-limit, waiting-limit}
-use Rattle.format.specs.Policy.{Policy, postfix, Predicate, Legal}
-use Rattle.format.specs.PolicyWords.{bits-of, LegalWord}
+use Rattle.format.specs.Limits.{words-limit}
+use Rattle.format.specs.Policy.{Policy}
+use Rattle.format.specs.PolicyWords.{bits-of}
 use Rattle.format.specs.declared.settings.PolicyWord.{PolicyWord}
 use Rattle.faults.specs.declared.layers.CheckFault.{CheckFault}
 use Rattle.faults.specs.declared.layers.CheckFault.the-variants.{LongPolicy, BadWord, BadOperands, NoPredicate, TooMany}
-use Rattle.policy.specs.Waiting.{spelled, AllLegal, Waits, Viable, Shallow, operands}
-use Rattle.policy.specs.Checking.{Accepted, LegalWords, Fine, Stuck, NoWord, Lacking, Unfinished, Unnegatable, Overfull, Refused, Determined}
+use Rattle.policy.specs.Waiting.{Waits, Viable, operands}
+use Rattle.policy.specs.Checking.{Accepted, Fine, Stuck, NoWord, Overfull, Refused, Determined}
 use Rattle.policy.proofs.Operands.{waits-unique, viable-waits, waits-viable, viable-shorter, policy-unique, waits-alone}
 
 -- where a fault stands
@@ -133,12 +133,17 @@ one-fault ws f g r q = go (cases-lt words-limit (length ws))
 -- an accepted policy is fine to its end
 accepted-fine : (ws : List ℕ) (p : Policy) → Accepted ws p → Fine ws (length ws)
 accepted-fine ws p a =
-    record
-      { short = a .short
-      ; within = omega arith
-      ; viable = record { policy = p; rest = []; legal = a .legal
-                        ; words = a .words ∙ sym (append-nil (take (length ws) ws) ∙ take-all (length ws) ws (omega arith)) }
-      ; shallow = a .shallow }
+    record {
+      short = a .short;
+      within = omega arith;
+      viable = record {
+        policy = p;
+        rest = [];
+        legal = a .legal;
+        words = a .words ∙ sym (append-nil (take (length ws) ws) ∙ take-all (length ws) ws (omega arith));
+      };
+      shallow = a .shallow;
+    }
 
 accepted-only : (ws : List ℕ) (p : Policy) (f : CheckFault) → Accepted ws p → Refused ws f → ⊥
 accepted-only ws p LongPolicy a r = omega (arith, a .short)
@@ -154,10 +159,11 @@ accepted-only ws p (TooMany i) a r = fine-past ws (TooMany i) (length ws) r (r .
 
 pub determined : (ws : List ℕ) → Determined ws
 determined ws =
-    record
-      { one-policy = λ p q l m e f. policy-unique p q l m (e ∙ sym f)
-      ; one-waiting = λ i ps qs a b. waits-unique (take i ws) ps qs a b
-      ; viable-waits = λ i v. viable-waits (take i ws) v
-      ; waits-viable = λ i ps a. waits-viable (take i ws) ps a
-      ; one-fault = one-fault ws
-      ; not-both = λ f a r. ∥∥₁-elim a ⊥-prop (λ b. accepted-only ws (b .0) f (b .1) r) }
+    record {
+      one-policy = λ p q l m e f. policy-unique p q l m (e ∙ sym f);
+      one-waiting = λ i ps qs a b. waits-unique (take i ws) ps qs a b;
+      viable-waits = λ i v. viable-waits (take i ws) v;
+      waits-viable = λ i ps a. waits-viable (take i ws) ps a;
+      one-fault = one-fault ws;
+      not-both = λ f a r. ∥∥₁-elim a ⊥-prop (λ b. accepted-only ws (b .0) f (b .1) r);
+    }

@@ -1,19 +1,15 @@
 -- One word more: what it makes of the waiting operands.
 use mathlib.Core.Path.{_≡_, refl, sym, ap, subst, _∙_}
-use mathlib.Core.Logic.{_⊎_, inl, inr}
 use mathlib.Core.List.{List, [], _∷_, _++_, append-assoc}
-use Prim.Native.Nat.{ℕ, zero, suc, _+_, _*_, _/_, _%_, _≤_, _<_}
+use Prim.Native.Nat.{ℕ, _+_, _≤_, _<_}
 use native.Mathlib.Omega.{arith}
-use lib.ListN.{length, take, drop, getD}
+use lib.ListN.{length}
 use Rattle.std.proofs.shelf.Lists.{same-from-push}
-use Rattle.format.specs.Fields.{fields, range}
-use Rattle.format.specs.Words.{word, value-end}
-use Rattle.format.specs.Limits.{cost-limit}
-use Rattle.format.specs.Policy.{Policy, postfix, Predicate, Legal}
+use Rattle.format.specs.Policy.{Policy, Predicate, Legal}
 use Rattle.format.specs.PolicyWords.{bits-of, LegalWord}
 use Rattle.format.specs.declared.settings.PolicyWord.{PolicyWord}
-use Rattle.policy.specs.Waiting.{spelled, AllLegal, Waits, Viable, operands}
-use Rattle.policy.proofs.Operands.{waits-before, waits-unique, after, after-parts, kids, root, spelled-root, not-empty, some-wait}
+use Rattle.policy.specs.Waiting.{spelled, AllLegal, Waits, operands}
+use Rattle.policy.proofs.Operands.{waits-before, waits-front, waits-unique, after, after-parts, kids, root, spelled-root, not-empty, some-wait}
 
 -- the word w makes of the waiting operands ps the waiting operands qs
 abbrev pub Grows : PolicyWord → List Policy → List Policy → Type 0
@@ -34,9 +30,10 @@ Grows PolicyWord.Star ps qs =
 -- operands that a word makes wait after the word
 put : (ws : List ℕ) (ps qs : List Policy) (q : Policy) → Waits ws (kids q ++ ps) → AllLegal (q ∷ ps) → qs ≡ q ∷ ps → Waits (ws ++ (root q ∷ [])) qs
 put ws ps qs q a l e =
-    record
-      { legal = let P : List Policy → Type 0 = AllLegal in subst P (sym e) l
-      ; words = ap spelled e ∙ spelled-root q ps ∙ ap (λ (us : List ℕ). us ++ (root q ∷ [])) (a .words) }
+    record {
+      legal = let P : List Policy → Type 0 = AllLegal in subst P (sym e) l;
+      words = ap spelled e ∙ spelled-root q ps ∙ ap (λ (us : List ℕ). us ++ (root q ∷ [])) (a .words);
+    }
 
 moved : {ws : List ℕ} {ps qs : List Policy} → ps ≡ qs → Waits ws ps → Waits ws qs
 moved {ws} e a = let P : List Policy → Type 0 = Waits ws in subst P e a
@@ -86,7 +83,7 @@ pub waits-grows : (w : PolicyWord) → LegalWord w → (ws : List ℕ) (ps qs : 
 waits-grows w l ws ps qs a b =
     let d = waits-before ws (bits-of w) qs b in
     grows-after w l ps qs (b .legal) (some-wait ws (bits-of w) qs b)
-        (d .2 ∙ ap (after (bits-of w)) (waits-unique ws (d .0) ps (d .1) a))
+    (d .2 ∙ ap (after (bits-of w)) (waits-unique ws (d .0) ps (d .1) a))
 
 -- a word takes its operands and leaves one
 pub grows-count : (w : PolicyWord) (ps qs : List Policy) → Grows w ps qs → length qs + operands w ≡ length ps + 1
@@ -134,3 +131,11 @@ waits-word ws b (q ∷ qs) a =
     let r = root-word q (a .legal .0) in
     let d = same-from-push (spelled (kids q ++ qs)) ws (root q) b (sym (spelled-root q qs) ∙ a .words) in
     (r .0, r .1, r .2 ∙ d .1)
+
+-- where words go on, so do the waiting operands: by the word that stands there, and in the one way that it allows
+pub waits-next : (ws : List ℕ) (w : PolicyWord) (rest : List ℕ) (ps qs : List Policy) → LegalWord w → Waits ws ps → Waits (ws ++ (bits-of w ∷ rest)) qs
+    → (us : List Policy) × Waits (ws ++ (bits-of w ∷ [])) us × Grows w ps us
+waits-next ws w rest ps qs l a b =
+    let d = waits-front (ws ++ (bits-of w ∷ [])) rest qs
+    (record { legal = b .legal; words = b .words ∙ sym (append-assoc ws (bits-of w ∷ []) rest) }) in
+    (d .0, d .1, waits-grows w l ws ps (d .0) a (d .1))

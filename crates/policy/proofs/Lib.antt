@@ -4,3 +4,4 @@ pub mod Stacks
 pub mod Marking
 pub mod Verdicts
 pub mod Determinism
+pub mod Policies

@@ -1,18 +1,13 @@
 -- The operands that wait after some words: there is at most one such list, and a word changes it in one way.
 use mathlib.Core.Path.{_≡_, refl, sym, ap, ap₂, subst, _∙_}
-use mathlib.Core.Logic.{_⊎_, inl, inr}
 use mathlib.Core.List.{List, [], _∷_, _++_, append-assoc}
-use Prim.Native.Nat.{ℕ, zero, suc, _+_, _*_, _/_, _%_, _≤_, _<_}
+use Prim.Native.Nat.{ℕ, zero, suc, _+_, _≤_, _<_}
 use native.Mathlib.Omega.{arith}
 use lib.ListN.{length, take, drop, getD}
-use Rattle.std.proofs.shelf.Lists.{append-nil, length-append, same-from-push, take-append-drop, take-take, take-more}
-use Rattle.format.specs.Fields.{fields, range}
+use Rattle.std.proofs.shelf.Lists.{append-nil, length-append, same-from-push, take-append-drop, take-take}
 use Rattle.format.specs.Words.{word, kind-of, field-of, value-of, value-end}
-use Rattle.format.specs.Limits.{cost-limit}
-use Rattle.format.specs.Policy.{Policy, postfix, Predicate, Legal}
+use Rattle.format.specs.Policy.{Policy, postfix, Legal}
 use Rattle.format.specs.Policy.Policy.{Drop, Pass, Test, Set, Cost, Not, Union, Sequence, Star}
-use Rattle.format.specs.PolicyWords.{bits-of, LegalWord}
-use Rattle.format.specs.declared.settings.PolicyWord.{PolicyWord}
 use Rattle.policy.specs.Waiting.{spelled, AllLegal, Waits, Viable}
 
 -- the operands of a policy's last word, the last one first
@@ -78,7 +73,7 @@ two f (q ∷ (p ∷ ps)) = f p q ∷ ps
 abbrev pub makes : ℕ → ℕ → List (List Policy → List Policy)
 makes f n =
     (λ ps. Drop ∷ ps) ∷ (λ ps. Pass ∷ ps) ∷ (λ ps. Test f n ∷ ps) ∷ (λ ps. Set f n ∷ ps) ∷ (λ ps. Cost n ∷ ps)
-        ∷ one Not ∷ two Union ∷ two Sequence ∷ one Star ∷ []
+    ∷ one Not ∷ two Union ∷ two Sequence ∷ one Star ∷ []
 
 abbrev pub joined : ℕ → ℕ → ℕ → List Policy → List Policy
 joined k f n = getD (makes f n) k (λ ps. ps)
@@ -93,7 +88,7 @@ pub after-parts : (k f n : ℕ) → f < 16 → n < value-end → (ps : List Poli
 after-parts k f n a b ps =
     let e = parts k f n a b in
     ap (λ (x : ℕ). joined x (field-of (word k f n)) (value-of (word k f n)) ps) (e .0)
-        ∙ ap (λ (x : ℕ). joined k x (value-of (word k f n)) ps) (e .1) ∙ ap (λ (x : ℕ). joined k f x ps) (e .2)
+    ∙ ap (λ (x : ℕ). joined k x (value-of (word k f n)) ps) (e .1) ∙ ap (λ (x : ℕ). joined k f x ps) (e .2)
 
 pub after-root : (p : Policy) → Legal p → (ps : List Policy) → after (root p) (kids p ++ ps) ≡ p ∷ ps
 after-root Drop l ps = refl
@@ -121,7 +116,7 @@ waits-same zero (p ∷ ps) (q ∷ qs) h l m e =
 waits-same (suc n) (p ∷ ps) (q ∷ qs) h l m e =
     let f = ap length (spelled-root p ps) ∙ length-append (spelled (kids p ++ ps)) (root p ∷ []) in
     let d = same-from-push (spelled (kids p ++ ps)) (spelled (kids q ++ qs)) (root p) (root q)
-          (sym (spelled-root p ps) ∙ e ∙ spelled-root q qs) in
+    (sym (spelled-root p ps) ∙ e ∙ spelled-root q qs) in
     let i = waits-same n (kids p ++ ps) (kids q ++ qs) (omega arith) (kids-legal p ps l) (kids-legal q qs m) (d .0) in
     sym (after-root p (l .0) ps) ∙ ap₂ after (d .1) i ∙ after-root q (m .0) qs
 
@@ -146,16 +141,18 @@ some-wait ws w (q ∷ qs) a = omega arith
 pub waits-before : (ws : List ℕ) (w : ℕ) (qs : List Policy) → Waits (ws ++ (w ∷ [])) qs → (ps : List Policy) × Waits ws ps × (qs ≡ after w ps)
 waits-before ws w [] a = absurd (not-empty ws w (a .words))
 waits-before ws w (q ∷ qs) a =
-    let d = same-from-push (spelled (kids q ++ qs)) ws (root q) w (sym (spelled-root q qs) ∙ a .words) in
-    (kids q ++ qs, record { legal = kids-legal q qs (a .legal); words = d .0 }
-        , sym (after-root q (a .legal .0) qs) ∙ ap (λ (b : ℕ). after b (kids q ++ qs)) (d .1))
+    let d = same-from-push (spelled (kids q ++ qs)) ws (root q) w (sym (spelled-root q qs) ∙ a .words) in (
+      kids q ++ qs,
+      record { legal = kids-legal q qs (a .legal); words = d .0 },
+      sym (after-root q (a .legal .0) qs) ∙ ap (λ (b : ℕ). after b (kids q ++ qs)) (d .1),
+    )
 
 -- so operands wait after any first words of such words
 pub waits-front : (ws rest : List ℕ) (qs : List Policy) → Waits (ws ++ rest) qs → (ps : List Policy) × Waits ws ps
 waits-front ws [] qs a = (qs, record { legal = a .legal; words = a .words ∙ append-nil ws })
 waits-front ws (w ∷ rest) qs a =
     let b = waits-front (ws ++ (w ∷ [])) rest qs
-          (record { legal = a .legal; words = a .words ∙ sym (append-assoc ws (w ∷ []) rest) }) in
+    (record { legal = a .legal; words = a .words ∙ sym (append-assoc ws (w ∷ []) rest) }) in
     let d = waits-before ws w (b .0) (b .1) in (d .0, d .1)
 
 -- the words of a legal policy's beginning leave operands waiting
@@ -175,10 +172,11 @@ united-legal p (q ∷ ps) l m = united-legal (Union q p) ps (m .0, l) (m .1)
 united-words : (p : Policy) (ps : List Policy) → (rest : List ℕ) × (postfix (united p ps) ≡ spelled (p ∷ ps) ++ rest)
 united-words p [] = ([], sym (append-nil (postfix p)))
 united-words p (q ∷ ps) =
-    let b = united-words (Union q p) ps in
-    (word 6 0 0 ∷ b .0
-        , b .1 ∙ ap (λ (l : List ℕ). l ++ b .0) (regroup (spelled ps) (postfix q) (postfix p) (word 6 0 0 ∷ []))
-          ∙ append-assoc (spelled (p ∷ (q ∷ ps))) (word 6 0 0 ∷ []) (b .0))
+    let b = united-words (Union q p) ps in (
+      word 6 0 0 ∷ b .0,
+      b .1 ∙ ap (λ (l : List ℕ). l ++ b .0) (regroup (spelled ps) (postfix q) (postfix p) (word 6 0 0 ∷ []))
+          ∙ append-assoc (spelled (p ∷ (q ∷ ps))) (word 6 0 0 ∷ []) (b .0),
+    )
 
 -- and whatever waits can be finished to a legal policy
 pub waits-viable : (ws : List ℕ) (ps : List Policy) → Waits ws ps → Viable ws
@@ -186,8 +184,12 @@ waits-viable ws [] a =
     record { policy = Drop; rest = postfix Drop; legal = tt; words = ap (λ (l : List ℕ). l ++ postfix Drop) (a .words) }
 waits-viable ws (p ∷ ps) a =
     let b = united-words p ps in
-    record { policy = united p ps; rest = b .0; legal = united-legal p ps (a .legal .0) (a .legal .1)
-           ; words = b .1 ∙ ap (λ (l : List ℕ). l ++ b .0) (a .words) }
+    record {
+      policy = united p ps;
+      rest = b .0;
+      legal = united-legal p ps (a .legal .0) (a .legal .1);
+      words = b .1 ∙ ap (λ (l : List ℕ). l ++ b .0) (a .words);
+    }
 
 pub viable-front : (ws rest : List ℕ) → Viable (ws ++ rest) → Viable ws
 viable-front ws rest v =
@@ -197,4 +199,4 @@ pub viable-shorter : (ws : List ℕ) (i j : ℕ) → i ≤ j → Viable (take j 
 viable-shorter ws i j h v =
     let P : List ℕ → Type 0 = Viable in
     viable-front (take i ws) (drop i (take j ws))
-        (subst P (sym (ap (λ (l : List ℕ). l ++ drop i (take j ws)) (sym (take-take i j ws h)) ∙ take-append-drop i (take j ws))) v)
+    (subst P (sym (ap (λ (l : List ℕ). l ++ drop i (take j ws)) (sym (take-take i j ws h)) ∙ take-append-drop i (take j ws))) v)

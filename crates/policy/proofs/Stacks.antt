@@ -1,6 +1,6 @@
 -- A stack in an array: its top, one element less or more.
-use mathlib.Core.Path.{_≡_, refl, sym, ap, subst, _∙_}
-use mathlib.Core.List.{List, [], _∷_, _++_, reverse}
+use mathlib.Core.Path.{_≡_, ap, _∙_}
+use mathlib.Core.List.{List, [], _∷_, reverse}
 use Prim.Native.Nat.{ℕ, _+_, _-_, _≤_, _<_}
 use native.Mathlib.Omega.{arith}
 use lib.ListN.{length, take, getD, set}
@@ -11,7 +11,7 @@ module _ {A : Type 0} where
   popped xs n d h l =
       let k : n ≡ (n - 1) + 1 = omega arith in
       ap (λ (m : ℕ). reverse (take m xs)) k ∙ ap reverse (take-more xs (n - 1) d (omega arith))
-          ∙ reverse-append (take (n - 1) xs) (getD xs (n - 1) d ∷ [])
+      ∙ reverse-append (take (n - 1) xs) (getD xs (n - 1) d ∷ [])
 
   pub pushed : (xs : List A) (n : ℕ) (y : A) → n < length xs → reverse (take (n + 1) (set xs n y)) ≡ y ∷ reverse (take n xs)
   pushed xs n y l = ap reverse (take-more-set xs n y l) ∙ reverse-append (take n xs) (y ∷ [])

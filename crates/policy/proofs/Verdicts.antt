@@ -9,14 +9,14 @@ use lib.ListN.{length, take, getD}
 use Rattle.std.proofs.shelf.Lists.{take-more, take-all, length-map}
 use Rattle.std.proofs.shelf.Tests.{cases-lt}
 use Rattle.format.specs.Limits.{words-limit, waiting-limit}
-use Rattle.format.specs.Policy.{Policy, postfix, Predicate, Legal}
+use Rattle.format.specs.Policy.{Policy, Predicate}
 use Rattle.format.specs.PolicyWords.{bits-of, LegalWord}
 use Rattle.format.specs.declared.settings.PolicyWord.{PolicyWord}
 use Rattle.faults.specs.declared.layers.CheckFault.{CheckFault}
 use Rattle.faults.specs.declared.layers.CheckFault.the-variants.{LongPolicy, BadWord, BadOperands, NoPredicate, TooMany}
-use Rattle.policy.specs.Waiting.{spelled, AllLegal, Waits, Viable, Shallow, operands}
+use Rattle.policy.specs.Waiting.{Waits, Shallow, operands}
 use Rattle.policy.specs.Flags.{Marks, Blocked}
-use Rattle.policy.specs.Checking.{Accepted, LegalWords, Fine, Stuck, NoWord, Lacking, Unfinished, Unnegatable, Overfull, Refused}
+use Rattle.policy.specs.Checking.{LegalWords, Fine, Stuck, NoWord, Lacking, Unnegatable, Overfull, Refused}
 use Rattle.policy.proofs.Operands.{waits-unique, viable-waits, waits-viable}
 use Rattle.policy.proofs.Growth.{Grows, grows-waits, waits-grows, grows-count, grows-enough, waits-word}
 
@@ -103,14 +103,15 @@ pub record Progress (ws : List ℕ) (i : ℕ) (bs : List Bool) : Type 0 where
 pub started : (ws : List ℕ) (bs : List Bool) → bs ≡ [] → Progress ws 0 bs
 started ws bs e =
     let none : Waits [] [] = record { legal = tt; words = refl } in
-    record
-      { ps = []
-      ; waits = none
-      ; flags = sym e
-      ; shallow = λ k h ps a.
+    record {
+      ps = [];
+      waits = none;
+      flags = sym e;
+      shallow = λ k h ps a.
           let z : k ≡ 0 = omega arith in
           let P : ℕ → Type 0 = λ n. Waits (take n ws) ps in
-          let f = waits-unique [] ps [] (subst P z a) none in omega (arith, ap length f) }
+          let f = waits-unique [] ps [] (subst P z a) none in omega (arith, ap length f);
+    }
 
 fine : (ws : List ℕ) (i : ℕ) (bs : List Bool) → length ws ≤ words-limit → i ≤ length ws → Progress ws i bs → Fine ws i
 fine ws i bs s h g =
@@ -140,8 +141,12 @@ pub advanced : (ws : List ℕ) (i : ℕ) (w : PolicyWord) (bs cs : List Bool) �
 advanced ws i w bs cs h l e n g m =
     let d = marks-grows w (g .ps) bs cs (g .flags) m in
     let a = waits-more ws i w l h e (g .ps) (d .0) (g .waits) (d .1) in
-    record { ps = d .0; waits = a; flags = d .2
-           ; shallow = shallow-more ws i (d .0) (g .shallow) a (omega (arith, ap length (d .2), length-map (d .0) is-predicate)) }
+    record {
+      ps = d .0;
+      waits = a;
+      flags = d .2;
+      shallow = shallow-more ws i (d .0) (g .shallow) a (omega (arith, ap length (d .2), length-map (d .0) is-predicate));
+    }
 
 pub finished : (ws : List ℕ) (i : ℕ) (bs : List Bool) → i ≡ length ws → Progress ws i bs → Progress ws (length ws) bs
 finished ws i bs e g = let P : ℕ → Type 0 = λ n. Progress ws n bs in subst P e g
@@ -157,25 +162,27 @@ accepted ws bs s n g = go (g .ps) (omega (arith, ap length (g .flags), length-ma
 
 pub unfinished : (ws : List ℕ) (bs : List Bool) → length ws ≤ words-limit → length bs ≢ 1 → Progress ws (length ws) bs → Refused ws (BadOperands (length ws))
 unfinished ws bs s n g =
-    inr (record
-      { ps = g .ps
-      ; fine = fine ws (length ws) bs s (omega arith) g
-      ; end = refl
-      ; waits = let P : List ℕ → Type 0 = λ us. Waits us (g .ps) in subst P (take-all (length ws) ws (omega arith)) (g .waits)
-      ; many = λ e. n (omega (arith, ap length (g .flags), length-map (g .ps) is-predicate)) })
+    inr (record {
+      ps = g .ps;
+      fine = fine ws (length ws) bs s (omega arith) g;
+      end = refl;
+      waits = let P : List ℕ → Type 0 = λ us. Waits us (g .ps) in subst P (take-all (length ws) ws (omega arith)) (g .waits);
+      many = λ e. n (omega (arith, ap length (g .flags), length-map (g .ps) is-predicate));
+    })
 
 -- no legal policy goes on with word i, if no operands can wait after it
 stuck : (ws : List ℕ) (i : ℕ) (bs : List Bool) → length ws ≤ words-limit → i < length ws → (g : Progress ws i bs)
     → ((qs : List Policy) → Waits (take i ws ++ (getD ws i 0 ∷ [])) qs → ⊥) → Stuck ws i (g .ps)
 stuck ws i bs s h g no-way =
-    record
-      { fine = fine ws i bs s (omega arith) g
-      ; inside = h
-      ; waits = g .waits
-      ; dead = λ v.
+    record {
+      fine = fine ws i bs s (omega arith) g;
+      inside = h;
+      waits = g .waits;
+      dead = λ v.
           let a = viable-waits (take (i + 1) ws) v in
           let P : List ℕ → Type 0 = λ us. Waits us (a .0) in
-          no-way (a .0) (subst P (more ws i (getD ws i 0) h refl) (a .1)) }
+          no-way (a .0) (subst P (more ws i (getD ws i 0) h refl) (a .1));
+    }
 
 -- and operands that do wait after it come of that word
 grown-by : (ws : List ℕ) (i : ℕ) (w : PolicyWord) (ps qs : List Policy) → LegalWord w → bits-of w ≡ getD ws i 0
@@ -192,14 +199,15 @@ lacking : (ws : List ℕ) (i : ℕ) (w : PolicyWord) (bs : List Bool) → length
     → Progress ws i bs → length bs < operands w → Lacking ws i
 lacking ws i w bs s h l e g n =
     let few : length (g .ps) < operands w = omega (arith, ap length (g .flags), length-map (g .ps) is-predicate) in
-    record
-      { ps = g .ps
-      ; stuck = stuck ws i bs s h g (λ qs a.
-          omega (arith, grows-enough w (g .ps) qs (grown-by ws i w (g .ps) qs l e (g .waits) a)))
-      ; operator = w
-      ; legal = l
-      ; word = e
-      ; few = few }
+    record {
+      ps = g .ps;
+      stuck = stuck ws i bs s h g (λ qs a.
+          omega (arith, grows-enough w (g .ps) qs (grown-by ws i w (g .ps) qs l e (g .waits) a)));
+      operator = w;
+      legal = l;
+      word = e;
+      few = few;
+    }
 
 unnegatable : (ws : List ℕ) (i : ℕ) (ps : List Policy) (rest : List Bool) → length ws ≤ words-limit → i < length ws → bits-of PolicyWord.Not ≡ getD ws i 0
     → Waits (take i ws) ps → Shallow ws i → shown ps ≡ false ∷ rest → Unnegatable ws i
@@ -207,16 +215,17 @@ unnegatable ws i [] rest s h e a d f = absurd (omega (arith, ap length f))
 unnegatable ws i (p ∷ ps) rest s h e a d f =
     let g : Progress ws i (false ∷ rest) = record { ps = p ∷ ps; waits = a; flags = f; shallow = d } in
     let unfit = no-predicate p (cc) in
-    record
-      { p = p
-      ; ps = ps
-      ; stuck = stuck ws i (false ∷ rest) s h g (λ qs b.
+    record {
+      p = p;
+      ps = ps;
+      stuck = stuck ws i (false ∷ rest) s h g (λ qs b.
           let m = grown-by ws i PolicyWord.Not (p ∷ ps) qs tt e a b in
           let same : m .0 ≡ p = cc (m .3) in
           let P : Policy → Type 0 = Predicate in
-          unfit (subst P same (m .2)))
-      ; word = e
-      ; unfit = unfit }
+          unfit (subst P same (m .2)));
+      word = e;
+      unfit = unfit;
+    }
 
 -- a word that takes no operands is always one more
 leaf-grows : (w : PolicyWord) → operands w ≡ 0 → (ps : List Policy) → (qs : List Policy) × Grows w ps qs
@@ -234,12 +243,13 @@ overfull : (ws : List ℕ) (i : ℕ) (w : PolicyWord) (bs : List Bool) → lengt
     → Progress ws i bs → operands w ≡ 0 → waiting-limit ≤ length bs → Overfull ws i
 overfull ws i w bs s h l e g z n =
     let d = leaf-grows w z (g .ps) in
-    record
-      { ps = d .0
-      ; fine = fine ws i bs s (omega arith) g
-      ; inside = h
-      ; waits = waits-more ws i w l h e (g .ps) (d .0) (g .waits) (d .1)
-      ; many = omega (arith, grows-count w (g .ps) (d .0) (d .1), ap length (g .flags), length-map (g .ps) is-predicate) }
+    record {
+      ps = d .0;
+      fine = fine ws i bs s (omega arith) g;
+      inside = h;
+      waits = waits-more ws i w l h e (g .ps) (d .0) (g .waits) (d .1);
+      many = omega (arith, grows-count w (g .ps) (d .0) (d .1), ap length (g .flags), length-map (g .ps) is-predicate);
+    }
 
 pub blocked : (ws : List ℕ) (i : ℕ) (w : PolicyWord) (bs : List Bool) (f : CheckFault) → length ws ≤ words-limit → i < length ws → LegalWord w → bits-of w ≡ getD ws i 0
     → Progress ws i bs → Blocked w i bs f → Refused ws f

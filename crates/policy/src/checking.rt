@@ -9,12 +9,12 @@ ghost use Rattle.faults.specs.declared.layers.CheckFault.the-variants.{BadOpera
 ghost use Rattle.policy.specs.Checking.{LegalWords, Refused, Determined};
 ghost use Rattle.policy.specs.Checked.{policy-words};
 ghost use Rattle.policy.specs.Flags.{flags, Marks, Blocked};
+use crate::checked::CheckedPolicy;
+use crate::waiting::Waiting;
 use faults::CheckFault;
 use format::PolicyWord;
 use format::WAITING_LIMIT;
 use format::WORDS_LIMIT;
-use crate::checked::CheckedPolicy;
-use crate::waiting::Waiting;
 
 impl Waiting {
     fn none() -> Waiting

@@ -12,8 +12,8 @@ use Rattle.policy.proofs.waiting.Waiting.accept.Needs.{in-Drop, in-Set, in-Not
 
 took : (c : need.After-push) → Took (c .args .word) (flags (c .args .self .now)) (flags (c .match-word .self)) (c .match-word .predicate)
 took c =
-    elim (c .match-word .came)
-      [ in-Drop w ↦ took-predicate _ _ _ _ (w .in-Drop .is) (ap flags (w .self-is)) (w .predicate-is)
+    elim (c .match-word .came) [
+      | in-Drop w ↦ took-predicate _ _ _ _ (w .in-Drop .is) (ap flags (w .self-is)) (w .predicate-is)
       | in-Set w ↦ took-action _ _ _ _ (w .in-Set .is) (ap flags (w .self-is)) (w .predicate-is)
       | in-Not·in-Continue-pop·else-not-branch w ↦
           let h = w .in-Continue-pop .ensures tt in
@@ -27,11 +27,11 @@ took c =
       | in-Star·in-Continue-pop-2 w ↦
           let h = w .in-Continue-pop-2 .ensures tt in
           took-star _ _ _ _ (w .in-Continue-pop-2 .field-0) (w .in-Star .is) (cc) (w .predicate-is)
-      ]
+    ]
 
 pub returns : need.returns
 returns c =
     let fits : length (flags (c .args .self .now)) ≤ waiting-limit =
-          omega (arith, height-most (c .args .self .now .predicates) (c .args .self .now .count)) in
+    omega (arith, height-most (c .args .self .now .predicates) (c .args .self .now .count)) in
     settled (c .args .word) (c .args .place) (flags (c .args .self .now)) (flags (c .match-word .self)) (flags (c .push .last .self))
-        (c .match-word .predicate) (c .push .result) fits (took c) (c .push .ensures)
+    (c .match-word .predicate) (c .push .result) fits (took c) (c .push .ensures)
