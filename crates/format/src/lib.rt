@@ -118,4 +118,26 @@ impl PolicyWord {
             PolicyWord::Star => 8 * KIND_UNIT,
         }
     }
+
+    // The policy word of these bits, or none where no legal policy word has them.
+    pub fn decode(bits: u32) -> Option<PolicyWord>
+        ensures some { λ r. ⌜ Cases r (Unit {0}) (λ w. LegalWord w × (bits-of w ≡ bits)) ⌝ }
+        ensures none { λ r. ⌜ Cases r ((w : PolicyWord) → LegalWord w → bits-of w ≡ bits → ⊥) (λ _. Unit {0}) ⌝ }
+    {
+        let word = Word::split(bits);
+        match word.kind {
+            2 => Some(PolicyWord::Test(Setting::new(word.field, word.value)?)),
+            3 => Some(PolicyWord::Set(Setting::new(word.field, word.value)?)),
+            _ if word.field != 0 => None,
+            4 if word.value <= COST_LIMIT => Some(PolicyWord::Cost(Amount::new(word.value)?)),
+            _ if word.value != 0 => None,
+            0 => Some(PolicyWord::Drop),
+            1 => Some(PolicyWord::Pass),
+            5 => Some(PolicyWord::Not),
+            6 => Some(PolicyWord::Union),
+            7 => Some(PolicyWord::Sequence),
+            8 => Some(PolicyWord::Star),
+            _ => None,
+        }
+    }
 }

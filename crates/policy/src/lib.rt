@@ -1,0 +1,7 @@
+// Policy texts and words: what is read from a text, and which words are a legal policy.
+mod checked;
+mod checking;
+mod waiting;
+
+pub use checked::CheckedPolicy;
+pub use checking::check;
