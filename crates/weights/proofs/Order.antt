@@ -20,10 +20,10 @@ module _ {o : Ops} (l : Laws o) where
         left = p .left;
         right = q .right;
         below =
-          ap (o .join a) (sym (q .below)) ∙
-          sym (l .join-associative a b c (p .left) (p .right) (q .right)) ∙
-          ap (λ x. o .join x c) (p .below) ∙
-          q .below
+            ap (o .join a) (sym (q .below)) ∙
+            sym (l .join-associative a b c (p .left) (p .right) (q .right)) ∙
+            ap (λ x. o .join x c) (p .below) ∙
+            q .below;
       }
 
   pub under-antisym : {a b : ℕ} → Under o a b → Under o b a → a ≡ b
@@ -38,7 +38,7 @@ module _ {o : Ops} (l : Laws o) where
       record {
         left = w;
         right = l .one-weight;
-        below = l .join-commutative a (o .one) w (l .one-weight) ∙ l .one-absorbs-join a w
+        below = l .join-commutative a (o .one) w (l .one-weight) ∙ l .one-absorbs-join a w;
       }
 
   pub join-left : {a b : ℕ} → Weight o a → Weight o b → Under o a (o .join a b)
@@ -47,7 +47,7 @@ module _ {o : Ops} (l : Laws o) where
         left = v;
         right = l .join-weight a b v w;
         below =
-          sym (l .join-associative a a b v v w) ∙ ap (λ x. o .join x b) (l .join-idempotent a v)
+            sym (l .join-associative a a b v v w) ∙ ap (λ x. o .join x b) (l .join-idempotent a v);
       }
 
   pub join-right : {a b : ℕ} → Weight o a → Weight o b → Under o b (o .join a b)
@@ -60,9 +60,9 @@ module _ {o : Ops} (l : Laws o) where
         left = l .join-weight a b (p .left) (q .left);
         right = p .right;
         below =
-          l .join-associative a b c (p .left) (q .left) (p .right) ∙
-          ap (o .join a) (q .below) ∙
-          p .below
+            l .join-associative a b c (p .left) (q .left) (p .right) ∙
+            ap (o .join a) (q .below) ∙
+            p .below;
       }
 
   pub join-mono : {a b c d : ℕ} → Under o a c → Under o b d → Under o (o .join a b) (o .join c d)
@@ -70,7 +70,6 @@ module _ {o : Ops} (l : Laws o) where
       join-least (under-trans p (join-left (p .right) (q .right)))
       (under-trans q (join-right (p .right) (q .right)))
 
-  -- join a b is the only weight that is above both and below all that are
   pub join-zero : {a : ℕ} → Weight o a → o .join a (o .zero) ≡ a
   join-zero {a} w = l .join-commutative a (o .zero) w (l .zero-weight) ∙ l .zero-neutral a w
 
@@ -80,8 +79,8 @@ module _ {o : Ops} (l : Laws o) where
         left = l .times-weight a c (p .left) w;
         right = l .times-weight b c (p .right) w;
         below =
-          sym (l .times-distributes-right a b c (p .left) (p .right) w) ∙
-          ap (λ x. o .times x c) (p .below)
+            sym (l .times-distributes-right a b c (p .left) (p .right) w) ∙
+            ap (λ x. o .times x c) (p .below);
       }
 
   pub times-mono-right : {a b c : ℕ} → Weight o c → Under o a b → Under o (o .times c a) (o .times c b)
@@ -90,7 +89,7 @@ module _ {o : Ops} (l : Laws o) where
         left = l .times-weight c a w (p .left);
         right = l .times-weight c b w (p .right);
         below =
-          sym (l .times-distributes-left c a b w (p .left) (p .right)) ∙ ap (o .times c) (p .below)
+            sym (l .times-distributes-left c a b w (p .left) (p .right)) ∙ ap (o .times c) (p .below);
       }
 
   pub times-mono : {a b c d : ℕ} → Under o a c → Under o b d → Under o (o .times a b) (o .times c d)
@@ -121,10 +120,10 @@ module _ {o : Ops} (l : Laws o) where
         weight = l .join-weight a b v w;
         upper = elim [ true ↦ join-left v w .below | false ↦ join-right v w .below ];
         least =
-          λ c u h.
+            λ c u h.
             let p : Under o a c = record { left = v; right = u; below = h true } in
             let q : Under o b c = record { left = w; right = u; below = h false } in
-            join-least p q .below
+            join-least p q .below;
       }
 
   -- joins over lists: what is asked of g is asked at the list's elements only
@@ -187,7 +186,7 @@ module _ {o : Ops} (l : Laws o) where
     times-joins c [] g u w = l .zero-absorbs-right c u
     times-joins c (x ∷ xs) g u w =
         l .times-distributes-left c (g x) (joins o xs g) u (w x (inl refl))
-          (joins-weight xs g (λ y m. w y (inr m))) ∙
+        (joins-weight xs g (λ y m. w y (inr m))) ∙
         ap (o .join (o .times c (g x))) (times-joins c xs g u (λ y m. w y (inr m)))
 
     pub joins-times :
@@ -198,7 +197,7 @@ module _ {o : Ops} (l : Laws o) where
     joins-times c [] g u w = l .zero-absorbs-left c u
     joins-times c (x ∷ xs) g u w =
         l .times-distributes-right (g x) (joins o xs g) c (w x (inl refl))
-          (joins-weight xs g (λ y m. w y (inr m))) u ∙
+        (joins-weight xs g (λ y m. w y (inr m))) u ∙
         ap (o .join (o .times (g x) c)) (joins-times c xs g u (λ y m. w y (inr m)))
 
     pub joins-join :
@@ -210,11 +209,11 @@ module _ {o : Ops} (l : Laws o) where
         let both = λ (x : X) (m : In x xs). l .join-weight (g x) (h x) (v x m) (w x m) in
         under-antisym
         (joins-least xs (λ x. o .join (g x) (h x))
-          (l .join-weight (joins o xs g) (joins o xs h) (joins-weight xs g v) (joins-weight xs h w))
-          (λ x m. join-mono (joins-upper xs g v x m) (joins-upper xs h w x m)))
+        (l .join-weight (joins o xs g) (joins o xs h) (joins-weight xs g v) (joins-weight xs h w))
+        (λ x m. join-mono (joins-upper xs g v x m) (joins-upper xs h w x m)))
         (join-least
-          (joins-mono xs g (λ x. o .join (g x) (h x)) (λ x m. join-left (v x m) (w x m)))
-          (joins-mono xs h (λ x. o .join (g x) (h x)) (λ x m. join-right (v x m) (w x m))))
+        (joins-mono xs g (λ x. o .join (g x) (h x)) (λ x m. join-left (v x m) (w x m)))
+        (joins-mono xs h (λ x. o .join (g x) (h x)) (λ x m. join-right (v x m) (w x m))))
 
     pub joins-append :
         (xs ys : List X) (g : X → ℕ) →
@@ -224,8 +223,8 @@ module _ {o : Ops} (l : Laws o) where
     joins-append (x ∷ xs) ys g w =
         ap (o .join (g x)) (joins-append xs ys g w) ∙
         sym (l .join-associative (g x) (joins o xs g) (joins o ys g) (w x)
-          (joins-weight xs g (λ y m. w y))
-          (joins-weight ys g (λ y m. w y)))
+        (joins-weight xs g (λ y m. w y))
+        (joins-weight ys g (λ y m. w y)))
 
     -- the join over a list is the least upper bound of its elements
     pub joins-lub :
@@ -237,6 +236,6 @@ module _ {o : Ops} (l : Laws o) where
           weight = joins-weight xs g w;
           upper = λ i. joins-upper xs g w (i .0) (i .1) .below;
           least =
-            λ b u h.
-              joins-least xs g u (λ x m. record { left = w x m; right = u; below = h (x, m) }) .below
+              λ b u h.
+              joins-least xs g u (λ x m. record { left = w x m; right = u; below = h (x, m) }) .below;
         }

@@ -12,7 +12,7 @@ reach-ops =
       one = 1;
       join = λ a b. max a b;
       times = λ a b. min a b;
-      cost = λ n. 1
+      cost = λ n. 1;
     }
 
 -- the greatest number that is a weight: as a cost it says that the frame is not emitted
@@ -28,5 +28,5 @@ cost-ops =
       one = 0;
       join = λ a b. min a b;
       times = λ a b. min (a + b) top;
-      cost = λ n. n
+      cost = λ n. n;
     }

@@ -1,6 +1,5 @@
 // The kind that says at which least cost a frame is emitted; at the greatest number it is not.
 ghost use Rattle.weights.specs.Kinds.{cost-ops};
-
 use crate::TOP;
 use crate::WeightKind;
 

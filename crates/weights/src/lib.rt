@@ -4,9 +4,12 @@ ghost use Prim.Native.Nat.{_≤_};
 ghost use Rattle.format.specs.Limits.{cost-limit};
 ghost use Rattle.weights.specs.Weights.{Ops, Laws, Weight};
 
+mod bounds;
 mod cost;
 mod reach;
 
+pub use bounds::common_bound;
+pub use bounds::least_upper_bound;
 pub use cost::Cost;
 pub use cost::CostWeights;
 use format::VALUE_END;

@@ -1,6 +1,5 @@
 // The kind that says whether a frame is emitted: 1 yes, 0 no.
 ghost use Rattle.weights.specs.Kinds.{reach-ops};
-
 use crate::WeightKind;
 
 pub struct Reach;
