@@ -162,3 +162,183 @@ module _ {o : Ops} (l : Laws o) {X : Type 0} (same : Same X) (step : Steps X) (w
       join-least l h
       (joins-least l (step s) (inner k U t) (h .right)
         (λ p m. pick-under (has same U (p .0)) (h .right) (g p m)))
+
+  pub within-rises : (k : ℕ) (U : List X) (s t : X) → Under o (within k U s t) (within (suc k) U s t)
+  within-rises zero U s t = within-stay 1 U s t
+  within-rises (suc k) U s t =
+      within-least k U s t (within-stay (suc (suc k)) U s t)
+      (λ p m q.
+        under-trans l (times-mono-right l (weighed s p m) (within-rises k U (p .0) t))
+          (within-onward (suc k) U s t p m q))
+
+  pub within-wider :
+      (k : ℕ) (R U : List X) →
+      ((x : X) → In x R → In x U) →
+      (s t : X) →
+      Under o (within k R s t) (within k U s t)
+  within-wider zero R U sub s t = under-refl l (stay-weight s t)
+  within-wider (suc k) R U sub s t =
+      within-least k R s t (within-stay (suc k) U s t)
+      (λ p m q.
+        under-trans l (times-mono-right l (weighed s p m) (within-wider k R U sub (p .0) t))
+          (within-onward k U s t p m (sub (p .0) q)))
+
+  pub within-walk : (k : ℕ) (U : List X) (s t : X) → Under o (within k U s t) (walk o same step k s t)
+  within-walk zero U s t = under-refl l (stay-weight s t)
+  within-walk (suc k) U s t =
+      within-least k U s t (walk-stay (suc k) s t)
+      (λ p m q.
+        under-trans l (times-mono-right l (weighed s p m) (within-walk k U (p .0) t)) (walk-onward k s t p m))
+
+  -- a walk that may meet g either avoids it, or goes on from its last visit to g, which weighs no less
+  pub cut :
+      (k : ℕ) (U R : List X) (g : X) →
+      ((x : X) → In x U → (x ≡ g) ⊎ In x R) →
+      (h t : X) →
+      Under o (within k U h t) (o .join (within k R h t) (within k R g t))
+  cut zero U R g split h t = join-left l (stay-weight h t) (stay-weight g t)
+  cut (suc k) U R g split h t =
+      within-least k U h t (under-trans l (within-stay (suc k) R h t) onto-left)
+      (λ p m q.
+        under-trans l (times-mono-right l (weighed h p m) (cut k U R g split (p .0) t))
+          (subst (λ v. Under o v (o .join (within (suc k) R h t) (within (suc k) R g t)))
+            (sym
+              (l .times-distributes-left (p .1) (within k R (p .0) t) (within k R g t) (weighed h p m)
+                (within-weight k R (p .0) t)
+                (within-weight k R g t)))
+            (join-least l (first p m (split (p .0) q)) (second p m))))
+    where
+      onto-left : Under o (within (suc k) R h t) (o .join (within (suc k) R h t) (within (suc k) R g t))
+      onto-left = join-left l (within-weight (suc k) R h t) (within-weight (suc k) R g t)
+
+      onto-right : Under o (within k R g t) (o .join (within (suc k) R h t) (within (suc k) R g t))
+      onto-right =
+          under-trans l (within-rises k R g t)
+          (join-right l (within-weight (suc k) R h t) (within-weight (suc k) R g t))
+
+      second :
+          (p : X × ℕ) →
+          In p (step h) →
+          Under o (o .times (p .1) (within k R g t)) (o .join (within (suc k) R h t) (within (suc k) R g t))
+      second p m = under-trans l (times-under-right l (weighed h p m) (within-weight k R g t)) onto-right
+
+      first :
+          (p : X × ℕ) →
+          In p (step h) →
+          (p .0 ≡ g) ⊎ In (p .0) R →
+          Under o (o .times (p .1) (within k R (p .0) t)) (o .join (within (suc k) R h t) (within (suc k) R g t))
+      first p m (inl e) =
+          subst
+          (λ x. Under o (o .times (p .1) (within k R x t)) (o .join (within (suc k) R h t) (within (suc k) R g t)))
+          (sym e)
+          (second p m)
+      first p m (inr r) = under-trans l (within-onward k R h t p m r) onto-left
+
+  pub cut-self :
+      (k : ℕ) (U R : List X) (g : X) →
+      ((x : X) → In x U → (x ≡ g) ⊎ In x R) →
+      (t : X) →
+      Under o (within k U g t) (within k R g t)
+  cut-self k U R g split t =
+      subst (Under o (within k U g t)) (l .join-idempotent (within k R g t) (within-weight k R g t))
+      (cut k U R g split g t)
+
+  pub settles : (k : ℕ) (U : List X) → length U ≤ k → (s t : X) → Under o (within (suc k) U s t) (within k U s t)
+  settles zero [] h s t = within-least 0 [] s t (under-refl l (stay-weight s t)) (λ p m q. absurd q)
+  settles zero (x ∷ xs) h s t = absurd (omega arith)
+  settles (suc k) U h s t =
+      within-least (suc k) U s t (within-stay (suc k) U s t)
+      (λ p m q.
+        let e = without-length (p .0) U q in
+        let R = without (p .0) U q in
+        let short : length R ≤ k = omega arith in
+        under-trans l
+          (times-mono-right l (weighed s p m)
+            (under-trans l (cut-self (suc k) U R (p .0) (without-rest (p .0) U q) t)
+              (under-trans l (settles k R short (p .0) t)
+                (within-wider k R U (without-in (p .0) U q) (p .0) t))))
+          (within-onward k U s t p m q))
+
+  pub walked-weight : {s x : X} {c : ℕ} → Walked o step s x c → Weight o c
+  walked-weight start = l .one-weight
+  walked-weight (onward {x = x} {y = y} {c = c} {w = w} v m) =
+      l .times-weight c w (walked-weight v) (weighed x (y, w) m)
+
+  pub walk-within :
+      (U : List X) (s : X) →
+      ((x : X) (c : ℕ) → Walked o step s x c → (c ≡ o .zero → ⊥) → In x U) →
+      (k : ℕ) (h t : X) (c : ℕ) →
+      Walked o step s h c →
+      Under o (o .times c (walk o same step k h t)) (o .times c (within k U h t))
+  walk-within U s met zero h t c v = under-refl l (l .times-weight _ _ (walked-weight v) (stay-weight h t))
+  walk-within U s met (suc k) h t c v =
+      subst (λ a. Under o a target)
+      (sym
+        (l .times-distributes-left c (stay o same h t) (joins o (step h) on) weight (stay-weight h t)
+          (joins-weight l (step h) on on-weight) ∙
+        ap (o .join (o .times c (stay o same h t))) (times-joins l c (step h) on weight on-weight)))
+      (join-least l (times-mono-right l weight (within-stay (suc k) U h t))
+        (joins-least l (step h) (λ p. o .times c (on p))
+          (l .times-weight _ _ weight (within-weight (suc k) U h t))
+          (λ p m.
+            through p m (ℕ-discrete (o .times c (p .1)) (o .zero))
+              (walk-within U s met k (p .0) t (o .times c (p .1)) (onward v m)))))
+    where
+      weight : Weight o c
+      weight = walked-weight v
+
+      target : ℕ
+      target = o .times c (within (suc k) U h t)
+
+      on : X × ℕ → ℕ
+      on p = o .times (p .1) (walk o same step k (p .0) t)
+
+      on-weight : (p : X × ℕ) → In p (step h) → Weight o (on p)
+      on-weight p m = l .times-weight _ _ (weighed h p m) (walk-weight k (p .0) t)
+
+      regroup : (p : X × ℕ) → In p (step h) → (a : ℕ) → Weight o a → o .times (o .times c (p .1)) a ≡ o .times c (o .times (p .1) a)
+      regroup p m a w = l .times-associative c (p .1) a weight (weighed h p m) w
+
+      through :
+          (p : X × ℕ) →
+          In p (step h) →
+          Dec (o .times c (p .1) ≡ o .zero) →
+          Under o (o .times (o .times c (p .1)) (walk o same step k (p .0) t)) (o .times (o .times c (p .1)) (within k U (p .0) t)) →
+          Under o (o .times c (on p)) target
+      through p m (yes e) ih =
+          subst (λ a. Under o a target)
+          (sym (l .zero-absorbs-left _ (walk-weight k (p .0) t)) ∙
+            ap (λ a. o .times a (walk o same step k (p .0) t)) (sym e) ∙
+            regroup p m _ (walk-weight k (p .0) t))
+          (zero-under l (l .times-weight _ _ weight (within-weight (suc k) U h t)))
+      through p m (no n) ih =
+          under-trans l
+          (subst (λ a. Under o a (o .times c (o .times (p .1) (within k U (p .0) t))))
+            (regroup p m _ (walk-weight k (p .0) t))
+            (subst (Under o (o .times (o .times c (p .1)) (walk o same step k (p .0) t)))
+              (regroup p m _ (within-weight k U (p .0) t))
+              ih))
+          (times-mono-right l weight (within-onward k U h t p m (met (p .0) _ (onward v m) n)))
+
+  -- walks longer than the number of states met besides the first add nothing
+  pub walk-ends :
+      (U : List X) (s : X) →
+      Meets-only o step s U →
+      (k : ℕ) →
+      length U ≤ k →
+      (t : X) →
+      walk o same step (suc k) s t ≡ walk o same step k s t
+  walk-ends U s met k h t = under-antisym l settled (walk-rises k s t)
+    where
+      one-more : (n : ℕ) → Under o (walk o same step n s t) (within n (s ∷ U) s t)
+      one-more n =
+          subst (λ a. Under o a (within n (s ∷ U) s t)) (l .one-neutral-left _ (walk-weight n s t))
+          (subst (Under o (o .times (o .one) (walk o same step n s t)))
+            (l .one-neutral-left _ (within-weight n (s ∷ U) s t))
+            (walk-within (s ∷ U) s met n s t (o .one) start))
+
+      settled : Under o (walk o same step (suc k) s t) (walk o same step k s t)
+      settled =
+          under-trans l (one-more (suc k))
+          (under-trans l (cut-self (suc k) (s ∷ U) U s (λ x m. m) t)
+            (under-trans l (settles k U h s t) (within-walk k U s t)))
