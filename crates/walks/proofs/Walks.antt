@@ -3,12 +3,12 @@ use mathlib.Core.Path.{_≡_, refl, sym, _∙_, ap, subst}
 use mathlib.Core.List.{List, [], _∷_, map}
 use mathlib.Core.Logic.{_⊎_, inl, inr}
 use Prim.Native.Nat.{ℕ, zero, suc, _+_, _≤_}
-use native.Mathlib.Decide.{ℕ-discrete}
+use native.Mathlib.Decide.{ℕ-discrete, decLe}
 use native.Mathlib.Omega.{arith}
 use lib.ListN.{length}
 use Rattle.weights.specs.Weights.{Ops, Laws, Weight}
 use Rattle.weights.specs.Order.{In, Lub, Under, joins}
-use Rattle.weights.proofs.Order.{under-refl, under-trans, under-antisym, under-zero, zero-under, join-left, join-right, join-least, join-mono, times-mono-right, times-under-right, joins-weight, joins-upper, joins-least, joins-mono, times-joins}
+use Rattle.weights.proofs.Order.{under-refl, under-trans, under-antisym, under-zero, zero-under, join-left, join-right, join-least, join-mono, times-mono-right, times-under-right, joins-weight, joins-upper, joins-least, joins-mono, joins-equal, joins-map, joins-swap, times-joins, join-zero}
 use Rattle.walks.specs.Walks.{Same, Steps, pick, Weighed, stay, copies, walk, Walked, start, onward, Meets-only, up-to}
 
 -- what is left of a list without one of its elements
@@ -342,3 +342,62 @@ module _ {o : Ops} (l : Laws o) {X : Type 0} (same : Same X) (step : Steps X) (w
           under-trans l (one-more (suc k))
           (under-trans l (cut-self (suc k) (s ∷ U) U s (λ x m. m) t)
             (under-trans l (settles k U h s t) (within-walk k U s t)))
+
+  -- more steps weigh no less
+  pub walk-up : (i j : ℕ) → i ≤ j → (s t : X) → Under o (walk o same step i s t) (walk o same step j s t)
+  walk-up i zero h s t =
+      let e : 0 ≡ i = omega arith in
+      subst (λ n. Under o (walk o same step n s t) (stay o same s t)) e (under-refl l (stay-weight s t))
+  walk-up i (suc j) h s t = go (ℕ-discrete i (suc j)) (λ h′. walk-up i j h′ s t)
+    where
+      go :
+          Dec (i ≡ suc j) →
+          (i ≤ j → Under o (walk o same step i s t) (walk o same step j s t)) →
+          Under o (walk o same step i s t) (walk o same step (suc j) s t)
+      go (yes e) ih =
+          subst (λ n. Under o (walk o same step n s t) (walk o same step (suc j) s t)) (sym e)
+          (under-refl l (walk-weight (suc j) s t))
+      go (no n) ih = under-trans l (ih (omega arith)) (walk-rises j s t)
+
+  -- what settles from k on is above all walks
+  pub walk-settled :
+      (s t : X) (k : ℕ) →
+      ((j : ℕ) → k ≤ j → walk o same step (suc j) s t ≡ walk o same step j s t) →
+      (j : ℕ) →
+      Under o (walk o same step j s t) (walk o same step k s t)
+  walk-settled s t k fixed zero = walk-up 0 k (omega arith) s t
+  walk-settled s t k fixed (suc j) = go (decLe k j) (walk-settled s t k fixed j)
+    where
+      go :
+          Dec (k ≤ j) →
+          Under o (walk o same step j s t) (walk o same step k s t) →
+          Under o (walk o same step (suc j) s t) (walk o same step k s t)
+      go (yes h) ih = subst (λ a. Under o a (walk o same step k s t)) (sym (fixed j h)) ih
+      go (no n) ih = walk-up (suc j) k (omega arith) s t
+
+  pub copies-weight : (i : ℕ) (s t : X) → Weight o (copies o same step i s t)
+  copies-weight zero s t = stay-weight s t
+  copies-weight (suc i) s t =
+      joins-weight l (step s) _ (λ p m. l .times-weight _ _ (weighed s p m) (copies-weight i (p .0) t))
+
+  pub copies-walk : (i : ℕ) (s t : X) → Under o (copies o same step i s t) (walk o same step i s t)
+  copies-walk zero s t = under-refl l (stay-weight s t)
+  copies-walk (suc i) s t =
+      joins-least l (step s) _ (walk-weight (suc i) s t)
+      (λ p m. under-trans l (times-mono-right l (weighed s p m) (copies-walk i (p .0) t)) (walk-onward i s t p m))
+
+  -- walks of at most k steps are no, one, up to k copies of the steps
+  pub walk-copies :
+      (k : ℕ) (s t : X) →
+      walk o same step k s t ≡ joins o (up-to k) (λ i. copies o same step i s t)
+  walk-copies zero s t = sym (join-zero l (stay-weight s t))
+  walk-copies (suc k) s t =
+      ap (o .join (stay o same s t))
+      (joins-equal l (step s) _ _
+        (λ p m.
+          ap (o .times (p .1)) (walk-copies k (p .0) t) ∙
+          times-joins l (p .1) (up-to k) (λ i. copies o same step i (p .0) t) (weighed s p m)
+            (λ i n. copies-weight i (p .0) t)) ∙
+        joins-swap l (step s) (up-to k) (λ p i. o .times (p .1) (copies o same step i (p .0) t))
+          (λ p m i n. l .times-weight _ _ (weighed s p m) (copies-weight i (p .0) t)) ∙
+        sym (joins-map l suc (up-to k) (λ i. copies o same step i s t)))

@@ -1,7 +1,7 @@
 -- Theory of the order of weights, from the laws alone.
 use mathlib.Core.Path.{_≡_, refl, sym, _∙_, ap, subst}
 use mathlib.Core.Bool.{Bool, true, false}
-use mathlib.Core.List.{List, [], _∷_, _++_}
+use mathlib.Core.List.{List, [], _∷_, _++_, map}
 use mathlib.Core.Logic.{_⊎_, inl, inr}
 use Prim.Native.Nat.{ℕ}
 use Rattle.weights.specs.Weights.{Ops, Laws, Weight}
@@ -239,3 +239,35 @@ module _ {o : Ops} (l : Laws o) where
               λ b u h.
               joins-least xs g u (λ x m. record { left = w x m; right = u; below = h (x, m) }) .below;
         }
+
+  module _ {X Y : Type 0} where
+    pub joins-map : (f : X → Y) (xs : List X) (g : Y → ℕ) → joins o (map f xs) g ≡ joins o xs (λ x. g (f x))
+    joins-map f [] g = refl
+    joins-map f (x ∷ xs) g = ap (o .join (g (f x))) (joins-map f xs g)
+
+    pub joins-twice-under :
+        (xs : List X) (ys : List Y) (g : X → Y → ℕ) →
+        ((x : X) → In x xs → (y : Y) → In y ys → Weight o (g x y)) →
+        Under o (joins o xs (λ x. joins o ys (g x))) (joins o ys (λ y. joins o xs (λ x. g x y)))
+    joins-twice-under xs ys g w =
+        joins-least xs (λ x. joins o ys (g x)) (joins-weight ys columns column-weight)
+        (λ x m.
+          joins-least ys (g x) (joins-weight ys columns column-weight)
+            (λ y n.
+              under-trans (joins-upper xs (λ z. g z y) (λ z k. w z k y n) x m)
+                (joins-upper ys columns column-weight y n)))
+      where
+        columns : Y → ℕ
+        columns y = joins o xs (λ x. g x y)
+
+        column-weight : (y : Y) → In y ys → Weight o (columns y)
+        column-weight y n = joins-weight xs (λ x. g x y) (λ x m. w x m y n)
+
+  -- two joins change places
+  pub joins-swap :
+      {X Y : Type 0} (xs : List X) (ys : List Y) (g : X → Y → ℕ) →
+      ((x : X) → In x xs → (y : Y) → In y ys → Weight o (g x y)) →
+      joins o xs (λ x. joins o ys (g x)) ≡ joins o ys (λ y. joins o xs (λ x. g x y))
+  joins-swap xs ys g w =
+      under-antisym (joins-twice-under xs ys g w)
+      (joins-twice-under ys xs (λ y x. g x y) (λ y n x m. w x m y n))
