@@ -259,19 +259,19 @@ module _ {o : Ops} (l : Laws o) {X : Type 0} (same : Same X) (step : Steps X) (w
                 (within-wider k R U (without-in (p .0) U q) (p .0) t))))
           (within-onward k U s t p m q))
 
-  pub walked-weight : {s x : X} {c : ℕ} → Walked o step s x c → Weight o c
+  pub walked-weight : {s : X} {n : ℕ} {x : X} {c : ℕ} → Walked o step s n x c → Weight o c
   walked-weight start = l .one-weight
   walked-weight (onward {x = x} {y = y} {c = c} {w = w} v m) =
       l .times-weight c w (walked-weight v) (weighed x (y, w) m)
 
   pub walk-within :
       (U : List X) (s : X) →
-      ((x : X) (c : ℕ) → Walked o step s x c → (c ≡ o .zero → ⊥) → In x U) →
-      (k : ℕ) (h t : X) (c : ℕ) →
-      Walked o step s h c →
+      ((n : ℕ) (x : X) (c : ℕ) → Walked o step s n x c → (c ≡ o .zero → ⊥) → In x U) →
+      (k n : ℕ) (h t : X) (c : ℕ) →
+      Walked o step s n h c →
       Under o (o .times c (walk o same step k h t)) (o .times c (within k U h t))
-  walk-within U s met zero h t c v = under-refl l (l .times-weight _ _ (walked-weight v) (stay-weight h t))
-  walk-within U s met (suc k) h t c v =
+  walk-within U s met zero n h t c v = under-refl l (l .times-weight _ _ (walked-weight v) (stay-weight h t))
+  walk-within U s met (suc k) n h t c v =
       subst (λ a. Under o a target)
       (sym
         (l .times-distributes-left c (stay o same h t) (joins o (step h) on) weight (stay-weight h t)
@@ -282,7 +282,7 @@ module _ {o : Ops} (l : Laws o) {X : Type 0} (same : Same X) (step : Steps X) (w
           (l .times-weight _ _ weight (within-weight (suc k) U h t))
           (λ p m.
             through p m (ℕ-discrete (o .times c (p .1)) (o .zero))
-              (walk-within U s met k (p .0) t (o .times c (p .1)) (onward v m)))))
+              (walk-within U s met k (suc n) (p .0) t (o .times c (p .1)) (onward v m)))))
     where
       weight : Weight o c
       weight = walked-weight v
@@ -311,14 +311,14 @@ module _ {o : Ops} (l : Laws o) {X : Type 0} (same : Same X) (step : Steps X) (w
             ap (λ a. o .times a (walk o same step k (p .0) t)) (sym e) ∙
             regroup p m _ (walk-weight k (p .0) t))
           (zero-under l (l .times-weight _ _ weight (within-weight (suc k) U h t)))
-      through p m (no n) ih =
+      through p m (no z) ih =
           under-trans l
           (subst (λ a. Under o a (o .times c (o .times (p .1) (within k U (p .0) t))))
             (regroup p m _ (walk-weight k (p .0) t))
             (subst (Under o (o .times (o .times c (p .1)) (walk o same step k (p .0) t)))
               (regroup p m _ (within-weight k U (p .0) t))
               ih))
-          (times-mono-right l weight (within-onward k U h t p m (met (p .0) _ (onward v m) n)))
+          (times-mono-right l weight (within-onward k U h t p m (met (suc n) (p .0) _ (onward v m) z)))
 
   -- walks longer than the number of states met besides the first add nothing
   pub walk-ends :
@@ -335,7 +335,7 @@ module _ {o : Ops} (l : Laws o) {X : Type 0} (same : Same X) (step : Steps X) (w
           subst (λ a. Under o a (within n (s ∷ U) s t)) (l .one-neutral-left _ (walk-weight n s t))
           (subst (Under o (o .times (o .one) (walk o same step n s t)))
             (l .one-neutral-left _ (within-weight n (s ∷ U) s t))
-            (walk-within (s ∷ U) s met n s t (o .one) start))
+            (walk-within (s ∷ U) s met n 0 s t (o .one) start))
 
       settled : Under o (walk o same step (suc k) s t) (walk o same step k s t)
       settled =

@@ -38,15 +38,19 @@ module _ (o : Ops) {X : Type 0} (same : Same X) (step : Steps X) where
   walk zero s t = stay o same s t
   walk (suc k) s t = o .join (stay o same s t) (joins o (step s) (λ p. o .times (p .1) (walk k (p .0) t)))
 
--- a single walk from s, to where it has come and with its weight so far
-pub data Walked (o : Ops) {X : Type 0} (step : Steps X) (s : X) : X → ℕ → Type 0 where
-  start : Walked o step s s (o .one)
-  onward : {x y : X} {c w : ℕ} → Walked o step s x c → In (y, w) (step x) → Walked o step s y (o .times c w)
+-- a single walk from s: its number of steps, where it has come, and its weight so far
+pub data Walked (o : Ops) {X : Type 0} (step : Steps X) (s : X) : ℕ → X → ℕ → Type 0 where
+  start : Walked o step s 0 s (o .one)
+  onward :
+      {n : ℕ} {x y : X} {c w : ℕ} →
+      Walked o step s n x c →
+      In (y, w) (step x) →
+      Walked o step s (suc n) y (o .times c w)
 
 -- a walk from s whose weight is not zero meets only s and the states of U
 abbrev pub Meets-only : (o : Ops) {X : Type 0} → Steps X → X → List X → Type 0
 Meets-only o {X} step s U =
-    (x : X) (c : ℕ) → Walked o step s x c → (c ≡ o .zero → ⊥) → (x ≡ s) ⊎ In x U
+    (n : ℕ) (x : X) (c : ℕ) → Walked o step s n x c → (c ≡ o .zero → ⊥) → (x ≡ s) ⊎ In x U
 
 -- the numbers from 0 to k
 abbrev pub up-to : ℕ → List ℕ
