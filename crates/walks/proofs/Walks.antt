@@ -8,7 +8,7 @@ use native.Mathlib.Omega.{arith}
 use lib.ListN.{length}
 use Rattle.weights.specs.Weights.{Ops, Laws, Weight}
 use Rattle.weights.specs.Order.{In, Lub, Under, joins}
-use Rattle.weights.proofs.Order.{under-refl, under-trans, under-antisym, under-zero, zero-under, join-left, join-right, join-least, join-mono, times-mono-right, times-under-right, joins-weight, joins-upper, joins-least, joins-mono, joins-equal, joins-map, joins-swap, times-joins, join-zero}
+use Rattle.weights.proofs.Order.{under-refl, under-trans, under-antisym, under-zero, zero-under, join-left, join-right, join-least, join-mono, times-mono-left, times-mono-right, times-under-right, joins-weight, joins-upper, joins-least, joins-mono, joins-equal, joins-map, joins-swap, joins-times, times-joins, join-zero}
 use Rattle.walks.specs.Walks.{Same, Steps, pick, Weighed, stay, copies, walk, Walked, start, onward, Meets-only, up-to}
 
 -- what is left of a list without one of its elements
@@ -51,6 +51,20 @@ either-dec (no n) (no k) = no (elim [ inl p ↦ n p | inr q ↦ k q ])
 pub has : {X : Type 0} → Same X → (U : List X) (x : X) → Dec (In x U)
 has same [] x = no (λ m. m)
 has same (y ∷ ys) x = either-dec (same x y) (has same ys x)
+
+in-map-suc : (i : ℕ) (xs : List ℕ) → In i (map suc xs) → (j : ℕ) × (i ≡ suc j) × In j xs
+in-map-suc i [] m = absurd m
+in-map-suc i (x ∷ xs) (inl e) = (x, e, inl refl)
+in-map-suc i (x ∷ xs) (inr m) = let r = in-map-suc i xs m in (r .0, r .1, inr (r .2))
+
+pub up-to-below : (k i : ℕ) → In i (up-to k) → i ≤ k
+up-to-below zero i (inl e) = omega arith
+up-to-below zero i (inr m) = absurd m
+up-to-below (suc k) i (inl e) = omega arith
+up-to-below (suc k) i (inr m) =
+    let r = in-map-suc i (up-to k) m in
+    let h = up-to-below k (r .0) (r .2) in
+    omega arith
 
 module _ {o : Ops} (l : Laws o) {X : Type 0} (same : Same X) (step : Steps X) (weighed : Weighed o step) where
   -- the walks of at most k steps whose steps all lead into U
@@ -401,3 +415,230 @@ module _ {o : Ops} (l : Laws o) {X : Type 0} (same : Same X) (step : Steps X) (w
         joins-swap l (step s) (up-to k) (λ p i. o .times (p .1) (copies o same step i (p .0) t))
           (λ p m i n. l .times-weight _ _ (weighed s p m) (copies-weight i (p .0) t)) ∙
         sym (joins-map l suc (up-to k) (λ i. copies o same step i s t)))
+
+  -- what is above each number of copies up to k is above the walks of at most k steps
+  pub walk-under :
+      (k : ℕ) (s t : X) {b : ℕ} →
+      Weight o b →
+      ((i : ℕ) → i ≤ k → Under o (copies o same step i s t) b) →
+      Under o (walk o same step k s t) b
+  walk-under k s t {b} w h =
+      subst (λ a. Under o a b) (sym (walk-copies k s t))
+      (joins-least l (up-to k) (λ i. copies o same step i s t) w (λ i m. h i (up-to-below k i m)))
+
+  -- where the walks from s to t settle, they are the star of the steps
+  pub settled-walks :
+      (s t : X) (k : ℕ) →
+      ((j : ℕ) → Under o (walk o same step j s t) (walk o same step k s t)) →
+      Lub o (λ j. walk o same step j s t) (walk o same step k s t)
+  settled-walks s t k above =
+      record { weight = walk-weight k s t; upper = λ j. above j .below; least = λ b w h. h k }
+
+  pub settled-star :
+      (s t : X) (k : ℕ) →
+      ((j : ℕ) → Under o (walk o same step j s t) (walk o same step k s t)) →
+      Lub o (λ i. copies o same step i s t) (walk o same step k s t)
+  settled-star s t k above =
+      record {
+        weight = walk-weight k s t;
+        upper = λ i. under-trans l (copies-walk i s t) (above i) .below;
+        least =
+            λ b w h.
+              walk-under k s t w (λ i n. record { left = copies-weight i s t; right = w; below = h i }) .below;
+      }
+
+  pub ended-above :
+      (U : List X) (s : X) →
+      Meets-only o step s U →
+      (k : ℕ) →
+      length U ≤ k →
+      (t : X) (j : ℕ) →
+      Under o (walk o same step j s t) (walk o same step k s t)
+  ended-above U s met k h t =
+      walk-settled s t k (λ j n. walk-ends U s met j (omega arith) t)
+
+  -- a round that changes nothing is followed by such rounds only
+  pub stopped-stays :
+      (k : ℕ) →
+      ((s t : X) → walk o same step (suc k) s t ≡ walk o same step k s t) →
+      (j : ℕ) →
+      k ≤ j →
+      (s t : X) →
+      walk o same step (suc j) s t ≡ walk o same step j s t
+  stopped-stays k stop zero h s t =
+      let e : k ≡ 0 = omega arith in
+      subst (λ n. walk o same step (suc n) s t ≡ walk o same step n s t) e (stop s t)
+  stopped-stays k stop (suc j) h s t = go (ℕ-discrete k (suc j)) (λ n. stopped-stays k stop j n)
+    where
+      go :
+          Dec (k ≡ suc j) →
+          (k ≤ j → (x y : X) → walk o same step (suc j) x y ≡ walk o same step j x y) →
+          walk o same step (suc (suc j)) s t ≡ walk o same step (suc j) s t
+      go (yes e) ih = subst (λ n. walk o same step (suc n) s t ≡ walk o same step n s t) e (stop s t)
+      go (no n) ih =
+          ap (o .join (stay o same s t))
+          (joins-equal l (step s) _ _ (λ p m. ap (o .times (p .1)) (ih (omega arith) (p .0) t)))
+
+  pub stopped-above :
+      (k : ℕ) →
+      ((s t : X) → walk o same step (suc k) s t ≡ walk o same step k s t) →
+      (s t : X) (j : ℕ) →
+      Under o (walk o same step j s t) (walk o same step k s t)
+  stopped-above k stop s t = walk-settled s t k (λ j n. stopped-stays k stop j n s t)
+
+  -- a single walk weighs no more than all of its length
+  copies-self : (s : X) → copies o same step 0 s s ≡ o .one
+  copies-self s = go (same s s)
+    where
+      go : (d : Dec (s ≡ s)) → pick d (o .one) (o .zero) ≡ o .one
+      go (yes e) = refl
+      go (no n) = absurd (n refl)
+
+  copies-onward :
+      (i : ℕ) (s t : X) (p : X × ℕ) →
+      In p (step s) →
+      Under o (o .times (p .1) (copies o same step i (p .0) t)) (copies o same step (suc i) s t)
+  copies-onward i s t p m =
+      joins-upper l (step s) (λ q. o .times (q .1) (copies o same step i (q .0) t))
+      (λ q n. l .times-weight _ _ (weighed s q n) (copies-weight i (q .0) t)) p m
+
+  copies-last :
+      (i : ℕ) (s x : X) (p : X × ℕ) →
+      In p (step x) →
+      Under o (o .times (copies o same step i s x) (p .1)) (copies o same step (suc i) s (p .0))
+  copies-last zero s x p m = go (same s x)
+    where
+      go : (d : Dec (s ≡ x)) → Under o (o .times (pick d (o .one) (o .zero)) (p .1)) (copies o same step 1 s (p .0))
+      go (yes e) =
+          subst (λ a. Under o a (copies o same step 1 s (p .0)))
+          (ap (o .times (p .1)) (copies-self (p .0)) ∙
+            l .one-neutral-right (p .1) (weighed x p m) ∙
+            sym (l .one-neutral-left (p .1) (weighed x p m)))
+          (copies-onward 0 s (p .0) p (subst (λ y. In p (step y)) (sym e) m))
+      go (no n) =
+          subst (λ a. Under o a (copies o same step 1 s (p .0))) (sym (l .zero-absorbs-left _ (weighed x p m)))
+          (zero-under l (copies-weight 1 s (p .0)))
+  copies-last (suc i) s x p m =
+      subst (λ a. Under o a (copies o same step (suc (suc i)) s (p .0)))
+      (sym (joins-times l (p .1) (step s) on (weighed x p m) on-weight))
+      (joins-least l (step s) (λ q. o .times (on q) (p .1)) (copies-weight (suc (suc i)) s (p .0))
+        (λ q n.
+          subst (λ a. Under o a (copies o same step (suc (suc i)) s (p .0)))
+            (sym
+              (l .times-associative (q .1) (copies o same step i (q .0) x) (p .1) (weighed s q n)
+                (copies-weight i (q .0) x)
+                (weighed x p m)))
+            (under-trans l (times-mono-right l (weighed s q n) (copies-last i (q .0) x p m))
+              (copies-onward (suc i) s (p .0) q n))))
+    where
+      on : X × ℕ → ℕ
+      on q = o .times (q .1) (copies o same step i (q .0) x)
+
+      on-weight : (q : X × ℕ) → In q (step s) → Weight o (on q)
+      on-weight q n = l .times-weight _ _ (weighed s q n) (copies-weight i (q .0) x)
+
+  pub walked-under :
+      {s : X} {n : ℕ} {x : X} {c : ℕ} →
+      Walked o step s n x c →
+      Under o c (copies o same step n s x)
+  walked-under {s} start =
+      subst (Under o (o .one)) (sym (copies-self s)) (under-refl l (l .one-weight))
+  walked-under {s} (onward {n = n} {x = x} {y = y} {c = c} {w = w} v m) =
+      under-trans l (times-mono-left l (weighed x (y, w) m) (walked-under v)) (copies-last n s x (y, w) m)
+
+  -- a state met by a walk that is not zero is one to which the walks together are not zero
+  pub meets-by-weight :
+      (U : List X) (s : X) →
+      ((j : ℕ) (x : X) → (walk o same step j s x ≡ o .zero → ⊥) → (x ≡ s) ⊎ In x U) →
+      Meets-only o step s U
+  meets-by-weight U s met n x c v nonzero =
+      met n x
+      (λ e.
+        nonzero
+          (under-zero l
+            (subst (Under o c) e (under-trans l (walked-under v) (copies-walk n s x)))))
+
+  -- the states to which a stopped round is not zero are all that walks meet
+  pub meets-by-answer :
+      (k : ℕ) →
+      ((s t : X) → walk o same step (suc k) s t ≡ walk o same step k s t) →
+      (U : List X) (s : X) →
+      ((x : X) → (walk o same step k s x ≡ o .zero → ⊥) → (x ≡ s) ⊎ In x U) →
+      Meets-only o step s U
+  meets-by-answer k stop U s met =
+      meets-by-weight U s
+      (λ j x nonzero.
+        met x (λ e. nonzero (under-zero l (subst (Under o (walk o same step j s x)) e (stopped-above k stop s x j)))))
+
+  -- a single walk that stays where it is
+  single-stay :
+      (s t : X) (b : ℕ) →
+      Weight o b →
+      (n : ℕ) (h : X) (c : ℕ) →
+      (Walked o step s n t c → Under o c b) →
+      Walked o step s n h c →
+      Under o (o .times c (stay o same h t)) b
+  single-stay s t b w n h c above v = go (same h t)
+    where
+      go : (d : Dec (h ≡ t)) → Under o (o .times c (pick d (o .one) (o .zero))) b
+      go (yes e) =
+          subst (λ a. Under o a b) (sym (l .one-neutral-right c (walked-weight v)))
+          (above (subst (λ x. Walked o step s n x c) e v))
+      go (no z) = subst (λ a. Under o a b) (sym (l .zero-absorbs-right c (walked-weight v))) (zero-under l w)
+
+  -- what is above each single walk of at most k steps is above them together
+  pub single-walks-under :
+      (s t : X) (b : ℕ) →
+      Weight o b →
+      (k n : ℕ) →
+      ((m : ℕ) (c : ℕ) → m ≤ n + k → Walked o step s m t c → Under o c b) →
+      (h : X) (c : ℕ) →
+      Walked o step s n h c →
+      Under o (o .times c (walk o same step k h t)) b
+  single-walks-under s t b w zero n above h c v = single-stay s t b w n h c (above n c (omega arith)) v
+  single-walks-under s t b w (suc k) n above h c v =
+      subst (λ a. Under o a b)
+      (sym
+        (l .times-distributes-left c (stay o same h t) (joins o (step h) on) weight (stay-weight h t)
+          (joins-weight l (step h) on on-weight) ∙
+        ap (o .join (o .times c (stay o same h t))) (times-joins l c (step h) on weight on-weight)))
+      (join-least l
+        (single-stay s t b w n h c (above n c (omega arith)) v)
+        (joins-least l (step h) (λ p. o .times c (on p)) w
+          (λ p m.
+            subst (λ a. Under o a b)
+              (l .times-associative c (p .1) (walk o same step k (p .0) t) weight (weighed h p m)
+                (walk-weight k (p .0) t))
+              (single-walks-under s t b w k (suc n) (λ i d le. above i d (omega arith)) (p .0) (o .times c (p .1))
+                (onward v m)))))
+    where
+      weight : Weight o c
+      weight = walked-weight v
+
+      on : X × ℕ → ℕ
+      on p = o .times (p .1) (walk o same step k (p .0) t)
+
+      on-weight : (p : X × ℕ) → In p (step h) → Weight o (on p)
+      on-weight p m = l .times-weight _ _ (weighed h p m) (walk-weight k (p .0) t)
+
+  -- walks of at most k steps weigh, together, the least upper bound of the single ones
+  pub walk-lub :
+      (k : ℕ) (s t : X) →
+      Lub o {I = (n : ℕ) × (n ≤ k) × (c : ℕ) × Walked o step s n t c} (λ i. i .2) (walk o same step k s t)
+  walk-lub k s t =
+      record {
+        weight = walk-weight k s t;
+        upper =
+            λ i.
+              under-trans l (walked-under (i .3)) (under-trans l (copies-walk (i .0) s t) (walk-up (i .0) k (i .1) s t))
+              .below;
+        least =
+            λ b w h.
+              subst (λ a. Under o a b) (l .one-neutral-left _ (walk-weight k s t))
+              (single-walks-under s t b w k 0
+                (λ m c le v. record { left = walked-weight v; right = w; below = h (m, omega arith, c, v) })
+                s
+                (o .one)
+                start)
+              .below;
+      }
