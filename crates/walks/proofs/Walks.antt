@@ -10,6 +10,7 @@ use Rattle.weights.specs.Weights.{Ops, Laws, Weight}
 use Rattle.weights.specs.Order.{In, Lub, Under, joins}
 use Rattle.weights.proofs.Order.{under-refl, under-trans, under-antisym, under-zero, zero-under, join-left, join-right, join-least, join-mono, times-mono-left, times-mono-right, times-under-right, joins-weight, joins-upper, joins-least, joins-mono, joins-equal, joins-map, joins-swap, joins-times, times-joins, join-zero}
 use Rattle.walks.specs.Walks.{Same, Steps, pick, Weighed, stay, copies, walk, Walked, start, onward, Meets-only, up-to}
+use Rattle.walks.specs.Rounds.{Rounds}
 
 -- what is left of a list without one of its elements
 abbrev pub without : {X : Type 0} (x : X) (U : List X) → In x U → List X
@@ -127,7 +128,7 @@ module _ {o : Ops} (l : Laws o) {X : Type 0} (same : Same X) (step : Steps X) (w
   walk-rises (suc k) s t =
       walk-least k s t (walk-stay (suc (suc k)) s t)
       (λ p m.
-        under-trans l (times-mono-right l (weighed s p m) (walk-rises k (p .0) t)) (walk-onward (suc k) s t p m))
+      under-trans l (times-mono-right l (weighed s p m) (walk-rises k (p .0) t)) (walk-onward (suc k) s t p m))
 
   -- the same of walks whose steps lead into U
   pub within-weight : (k : ℕ) (U : List X) (s t : X) → Weight o (within k U s t)
@@ -135,9 +136,9 @@ module _ {o : Ops} (l : Laws o) {X : Type 0} (same : Same X) (step : Steps X) (w
   within-weight (suc k) U s t =
       l .join-weight _ _ (stay-weight s t)
       (joins-weight l (step s) _
-        (λ p m.
-          pick-weight (has same U (p .0)) (l .times-weight _ _ (weighed s p m) (within-weight k U (p .0) t))
-            (l .zero-weight)))
+      (λ p m.
+      pick-weight (has same U (p .0)) (l .times-weight _ _ (weighed s p m) (within-weight k U (p .0) t))
+      (l .zero-weight)))
 
   inner : ℕ → List X → X → X × ℕ → ℕ
   inner k U t p = pick (has same U (p .0)) (o .times (p .1) (within k U (p .0) t)) (o .zero)
@@ -164,7 +165,7 @@ module _ {o : Ops} (l : Laws o) {X : Type 0} (same : Same X) (step : Steps X) (w
       under-trans l
       (under-pick (has same U (p .0)) q (l .times-weight _ _ (weighed s p m) (within-weight k U (p .0) t)))
       (under-trans l (joins-upper l (step s) (inner k U t) (inner-weight k U s t) p m)
-        (join-right l (stay-weight s t) (joins-weight l (step s) (inner k U t) (inner-weight k U s t))))
+      (join-right l (stay-weight s t) (joins-weight l (step s) (inner k U t) (inner-weight k U s t))))
 
   pub within-least :
       (k : ℕ) (U : List X) (s t : X) {b : ℕ} →
@@ -175,15 +176,15 @@ module _ {o : Ops} (l : Laws o) {X : Type 0} (same : Same X) (step : Steps X) (w
   within-least k U s t h g =
       join-least l h
       (joins-least l (step s) (inner k U t) (h .right)
-        (λ p m. pick-under (has same U (p .0)) (h .right) (g p m)))
+      (λ p m. pick-under (has same U (p .0)) (h .right) (g p m)))
 
   pub within-rises : (k : ℕ) (U : List X) (s t : X) → Under o (within k U s t) (within (suc k) U s t)
   within-rises zero U s t = within-stay 1 U s t
   within-rises (suc k) U s t =
       within-least k U s t (within-stay (suc (suc k)) U s t)
       (λ p m q.
-        under-trans l (times-mono-right l (weighed s p m) (within-rises k U (p .0) t))
-          (within-onward (suc k) U s t p m q))
+      under-trans l (times-mono-right l (weighed s p m) (within-rises k U (p .0) t))
+      (within-onward (suc k) U s t p m q))
 
   pub within-wider :
       (k : ℕ) (R U : List X) →
@@ -194,15 +195,15 @@ module _ {o : Ops} (l : Laws o) {X : Type 0} (same : Same X) (step : Steps X) (w
   within-wider (suc k) R U sub s t =
       within-least k R s t (within-stay (suc k) U s t)
       (λ p m q.
-        under-trans l (times-mono-right l (weighed s p m) (within-wider k R U sub (p .0) t))
-          (within-onward k U s t p m (sub (p .0) q)))
+      under-trans l (times-mono-right l (weighed s p m) (within-wider k R U sub (p .0) t))
+      (within-onward k U s t p m (sub (p .0) q)))
 
   pub within-walk : (k : ℕ) (U : List X) (s t : X) → Under o (within k U s t) (walk o same step k s t)
   within-walk zero U s t = under-refl l (stay-weight s t)
   within-walk (suc k) U s t =
       within-least k U s t (walk-stay (suc k) s t)
       (λ p m q.
-        under-trans l (times-mono-right l (weighed s p m) (within-walk k U (p .0) t)) (walk-onward k s t p m))
+      under-trans l (times-mono-right l (weighed s p m) (within-walk k U (p .0) t)) (walk-onward k s t p m))
 
   -- a walk that may meet g either avoids it, or goes on from its last visit to g, which weighs no less
   pub cut :
@@ -214,13 +215,13 @@ module _ {o : Ops} (l : Laws o) {X : Type 0} (same : Same X) (step : Steps X) (w
   cut (suc k) U R g split h t =
       within-least k U h t (under-trans l (within-stay (suc k) R h t) onto-left)
       (λ p m q.
-        under-trans l (times-mono-right l (weighed h p m) (cut k U R g split (p .0) t))
-          (subst (λ v. Under o v (o .join (within (suc k) R h t) (within (suc k) R g t)))
-            (sym
-              (l .times-distributes-left (p .1) (within k R (p .0) t) (within k R g t) (weighed h p m)
-                (within-weight k R (p .0) t)
-                (within-weight k R g t)))
-            (join-least l (first p m (split (p .0) q)) (second p m))))
+      under-trans l (times-mono-right l (weighed h p m) (cut k U R g split (p .0) t))
+      (subst (λ v. Under o v (o .join (within (suc k) R h t) (within (suc k) R g t)))
+      (sym
+      (l .times-distributes-left (p .1) (within k R (p .0) t) (within k R g t) (weighed h p m)
+      (within-weight k R (p .0) t)
+      (within-weight k R g t)))
+      (join-least l (first p m (split (p .0) q)) (second p m))))
     where
       onto-left : Under o (within (suc k) R h t) (o .join (within (suc k) R h t) (within (suc k) R g t))
       onto-left = join-left l (within-weight (suc k) R h t) (within-weight (suc k) R g t)
@@ -263,15 +264,15 @@ module _ {o : Ops} (l : Laws o) {X : Type 0} (same : Same X) (step : Steps X) (w
   settles (suc k) U h s t =
       within-least (suc k) U s t (within-stay (suc k) U s t)
       (λ p m q.
-        let e = without-length (p .0) U q in
-        let R = without (p .0) U q in
-        let short : length R ≤ k = omega arith in
-        under-trans l
-          (times-mono-right l (weighed s p m)
-            (under-trans l (cut-self (suc k) U R (p .0) (without-rest (p .0) U q) t)
-              (under-trans l (settles k R short (p .0) t)
-                (within-wider k R U (without-in (p .0) U q) (p .0) t))))
-          (within-onward k U s t p m q))
+      let e = without-length (p .0) U q in
+      let R = without (p .0) U q in
+      let short : length R ≤ k = omega arith in
+      under-trans l
+      (times-mono-right l (weighed s p m)
+      (under-trans l (cut-self (suc k) U R (p .0) (without-rest (p .0) U q) t)
+      (under-trans l (settles k R short (p .0) t)
+      (within-wider k R U (without-in (p .0) U q) (p .0) t))))
+      (within-onward k U s t p m q))
 
   pub walked-weight : {s : X} {n : ℕ} {x : X} {c : ℕ} → Walked o step s n x c → Weight o c
   walked-weight start = l .one-weight
@@ -288,15 +289,15 @@ module _ {o : Ops} (l : Laws o) {X : Type 0} (same : Same X) (step : Steps X) (w
   walk-within U s met (suc k) n h t c v =
       subst (λ a. Under o a target)
       (sym
-        (l .times-distributes-left c (stay o same h t) (joins o (step h) on) weight (stay-weight h t)
-          (joins-weight l (step h) on on-weight) ∙
-        ap (o .join (o .times c (stay o same h t))) (times-joins l c (step h) on weight on-weight)))
+      (l .times-distributes-left c (stay o same h t) (joins o (step h) on) weight (stay-weight h t)
+      (joins-weight l (step h) on on-weight) ∙
+      ap (o .join (o .times c (stay o same h t))) (times-joins l c (step h) on weight on-weight)))
       (join-least l (times-mono-right l weight (within-stay (suc k) U h t))
-        (joins-least l (step h) (λ p. o .times c (on p))
-          (l .times-weight _ _ weight (within-weight (suc k) U h t))
-          (λ p m.
-            through p m (ℕ-discrete (o .times c (p .1)) (o .zero))
-              (walk-within U s met k (suc n) (p .0) t (o .times c (p .1)) (onward v m)))))
+      (joins-least l (step h) (λ p. o .times c (on p))
+      (l .times-weight _ _ weight (within-weight (suc k) U h t))
+      (λ p m.
+      through p m (ℕ-discrete (o .times c (p .1)) (o .zero))
+      (walk-within U s met k (suc n) (p .0) t (o .times c (p .1)) (onward v m)))))
     where
       weight : Weight o c
       weight = walked-weight v
@@ -322,16 +323,16 @@ module _ {o : Ops} (l : Laws o) {X : Type 0} (same : Same X) (step : Steps X) (w
       through p m (yes e) ih =
           subst (λ a. Under o a target)
           (sym (l .zero-absorbs-left _ (walk-weight k (p .0) t)) ∙
-            ap (λ a. o .times a (walk o same step k (p .0) t)) (sym e) ∙
-            regroup p m _ (walk-weight k (p .0) t))
+          ap (λ a. o .times a (walk o same step k (p .0) t)) (sym e) ∙
+          regroup p m _ (walk-weight k (p .0) t))
           (zero-under l (l .times-weight _ _ weight (within-weight (suc k) U h t)))
       through p m (no z) ih =
           under-trans l
           (subst (λ a. Under o a (o .times c (o .times (p .1) (within k U (p .0) t))))
-            (regroup p m _ (walk-weight k (p .0) t))
-            (subst (Under o (o .times (o .times c (p .1)) (walk o same step k (p .0) t)))
-              (regroup p m _ (within-weight k U (p .0) t))
-              ih))
+          (regroup p m _ (walk-weight k (p .0) t))
+          (subst (Under o (o .times (o .times c (p .1)) (walk o same step k (p .0) t)))
+          (regroup p m _ (within-weight k U (p .0) t))
+          ih))
           (times-mono-right l weight (within-onward k U h t p m (met (suc n) (p .0) _ (onward v m) z)))
 
   -- walks longer than the number of states met besides the first add nothing
@@ -348,14 +349,14 @@ module _ {o : Ops} (l : Laws o) {X : Type 0} (same : Same X) (step : Steps X) (w
       one-more n =
           subst (λ a. Under o a (within n (s ∷ U) s t)) (l .one-neutral-left _ (walk-weight n s t))
           (subst (Under o (o .times (o .one) (walk o same step n s t)))
-            (l .one-neutral-left _ (within-weight n (s ∷ U) s t))
-            (walk-within (s ∷ U) s met n 0 s t (o .one) start))
+          (l .one-neutral-left _ (within-weight n (s ∷ U) s t))
+          (walk-within (s ∷ U) s met n 0 s t (o .one) start))
 
       settled : Under o (walk o same step (suc k) s t) (walk o same step k s t)
       settled =
           under-trans l (one-more (suc k))
           (under-trans l (cut-self (suc k) (s ∷ U) U s (λ x m. m) t)
-            (under-trans l (settles k U h s t) (within-walk k U s t)))
+          (under-trans l (settles k U h s t) (within-walk k U s t)))
 
   -- more steps weigh no less
   pub walk-up : (i j : ℕ) → i ≤ j → (s t : X) → Under o (walk o same step i s t) (walk o same step j s t)
@@ -408,13 +409,13 @@ module _ {o : Ops} (l : Laws o) {X : Type 0} (same : Same X) (step : Steps X) (w
   walk-copies (suc k) s t =
       ap (o .join (stay o same s t))
       (joins-equal l (step s) _ _
-        (λ p m.
-          ap (o .times (p .1)) (walk-copies k (p .0) t) ∙
-          times-joins l (p .1) (up-to k) (λ i. copies o same step i (p .0) t) (weighed s p m)
-            (λ i n. copies-weight i (p .0) t)) ∙
-        joins-swap l (step s) (up-to k) (λ p i. o .times (p .1) (copies o same step i (p .0) t))
-          (λ p m i n. l .times-weight _ _ (weighed s p m) (copies-weight i (p .0) t)) ∙
-        sym (joins-map l suc (up-to k) (λ i. copies o same step i s t)))
+      (λ p m.
+      ap (o .times (p .1)) (walk-copies k (p .0) t) ∙
+      times-joins l (p .1) (up-to k) (λ i. copies o same step i (p .0) t) (weighed s p m)
+      (λ i n. copies-weight i (p .0) t)) ∙
+      joins-swap l (step s) (up-to k) (λ p i. o .times (p .1) (copies o same step i (p .0) t))
+      (λ p m i n. l .times-weight _ _ (weighed s p m) (copies-weight i (p .0) t)) ∙
+      sym (joins-map l suc (up-to k) (λ i. copies o same step i s t)))
 
   -- what is above each number of copies up to k is above the walks of at most k steps
   pub walk-under :
@@ -444,7 +445,7 @@ module _ {o : Ops} (l : Laws o) {X : Type 0} (same : Same X) (step : Steps X) (w
         upper = λ i. under-trans l (copies-walk i s t) (above i) .below;
         least =
             λ b w h.
-              walk-under k s t w (λ i n. record { left = copies-weight i s t; right = w; below = h i }) .below;
+            walk-under k s t w (λ i n. record { left = copies-weight i s t; right = w; below = h i }) .below;
       }
 
   pub ended-above :
@@ -512,8 +513,8 @@ module _ {o : Ops} (l : Laws o) {X : Type 0} (same : Same X) (step : Steps X) (w
       go (yes e) =
           subst (λ a. Under o a (copies o same step 1 s (p .0)))
           (ap (o .times (p .1)) (copies-self (p .0)) ∙
-            l .one-neutral-right (p .1) (weighed x p m) ∙
-            sym (l .one-neutral-left (p .1) (weighed x p m)))
+          l .one-neutral-right (p .1) (weighed x p m) ∙
+          sym (l .one-neutral-left (p .1) (weighed x p m)))
           (copies-onward 0 s (p .0) p (subst (λ y. In p (step y)) (sym e) m))
       go (no n) =
           subst (λ a. Under o a (copies o same step 1 s (p .0))) (sym (l .zero-absorbs-left _ (weighed x p m)))
@@ -522,14 +523,14 @@ module _ {o : Ops} (l : Laws o) {X : Type 0} (same : Same X) (step : Steps X) (w
       subst (λ a. Under o a (copies o same step (suc (suc i)) s (p .0)))
       (sym (joins-times l (p .1) (step s) on (weighed x p m) on-weight))
       (joins-least l (step s) (λ q. o .times (on q) (p .1)) (copies-weight (suc (suc i)) s (p .0))
-        (λ q n.
-          subst (λ a. Under o a (copies o same step (suc (suc i)) s (p .0)))
-            (sym
-              (l .times-associative (q .1) (copies o same step i (q .0) x) (p .1) (weighed s q n)
-                (copies-weight i (q .0) x)
-                (weighed x p m)))
-            (under-trans l (times-mono-right l (weighed s q n) (copies-last i (q .0) x p m))
-              (copies-onward (suc i) s (p .0) q n))))
+      (λ q n.
+      subst (λ a. Under o a (copies o same step (suc (suc i)) s (p .0)))
+      (sym
+      (l .times-associative (q .1) (copies o same step i (q .0) x) (p .1) (weighed s q n)
+      (copies-weight i (q .0) x)
+      (weighed x p m)))
+      (under-trans l (times-mono-right l (weighed s q n) (copies-last i (q .0) x p m))
+      (copies-onward (suc i) s (p .0) q n))))
     where
       on : X × ℕ → ℕ
       on q = o .times (q .1) (copies o same step i (q .0) x)
@@ -554,9 +555,9 @@ module _ {o : Ops} (l : Laws o) {X : Type 0} (same : Same X) (step : Steps X) (w
   meets-by-weight U s met n x c v nonzero =
       met n x
       (λ e.
-        nonzero
-          (under-zero l
-            (subst (Under o c) e (under-trans l (walked-under v) (copies-walk n s x)))))
+      nonzero
+      (under-zero l
+      (subst (Under o c) e (under-trans l (walked-under v) (copies-walk n s x)))))
 
   -- the states to which a stopped round is not zero are all that walks meet
   pub meets-by-answer :
@@ -568,7 +569,7 @@ module _ {o : Ops} (l : Laws o) {X : Type 0} (same : Same X) (step : Steps X) (w
   meets-by-answer k stop U s met =
       meets-by-weight U s
       (λ j x nonzero.
-        met x (λ e. nonzero (under-zero l (subst (Under o (walk o same step j s x)) e (stopped-above k stop s x j)))))
+      met x (λ e. nonzero (under-zero l (subst (Under o (walk o same step j s x)) e (stopped-above k stop s x j)))))
 
   -- a single walk that stays where it is
   single-stay :
@@ -599,18 +600,18 @@ module _ {o : Ops} (l : Laws o) {X : Type 0} (same : Same X) (step : Steps X) (w
   single-walks-under s t b w (suc k) n above h c v =
       subst (λ a. Under o a b)
       (sym
-        (l .times-distributes-left c (stay o same h t) (joins o (step h) on) weight (stay-weight h t)
-          (joins-weight l (step h) on on-weight) ∙
-        ap (o .join (o .times c (stay o same h t))) (times-joins l c (step h) on weight on-weight)))
+      (l .times-distributes-left c (stay o same h t) (joins o (step h) on) weight (stay-weight h t)
+      (joins-weight l (step h) on on-weight) ∙
+      ap (o .join (o .times c (stay o same h t))) (times-joins l c (step h) on weight on-weight)))
       (join-least l
-        (single-stay s t b w n h c (above n c (omega arith)) v)
-        (joins-least l (step h) (λ p. o .times c (on p)) w
-          (λ p m.
-            subst (λ a. Under o a b)
-              (l .times-associative c (p .1) (walk o same step k (p .0) t) weight (weighed h p m)
-                (walk-weight k (p .0) t))
-              (single-walks-under s t b w k (suc n) (λ i d le. above i d (omega arith)) (p .0) (o .times c (p .1))
-                (onward v m)))))
+      (single-stay s t b w n h c (above n c (omega arith)) v)
+      (joins-least l (step h) (λ p. o .times c (on p)) w
+      (λ p m.
+      subst (λ a. Under o a b)
+      (l .times-associative c (p .1) (walk o same step k (p .0) t) weight (weighed h p m)
+      (walk-weight k (p .0) t))
+      (single-walks-under s t b w k (suc n) (λ i d le. above i d (omega arith)) (p .0) (o .times c (p .1))
+      (onward v m)))))
     where
       weight : Weight o c
       weight = walked-weight v
@@ -630,15 +631,28 @@ module _ {o : Ops} (l : Laws o) {X : Type 0} (same : Same X) (step : Steps X) (w
         weight = walk-weight k s t;
         upper =
             λ i.
-              under-trans l (walked-under (i .3)) (under-trans l (copies-walk (i .0) s t) (walk-up (i .0) k (i .1) s t))
-              .below;
+            under-trans l (walked-under (i .3)) (under-trans l (copies-walk (i .0) s t) (walk-up (i .0) k (i .1) s t))
+            .below;
         least =
             λ b w h.
-              subst (λ a. Under o a b) (l .one-neutral-left _ (walk-weight k s t))
-              (single-walks-under s t b w k 0
-                (λ m c le v. record { left = walked-weight v; right = w; below = h (m, omega arith, c, v) })
-                s
-                (o .one)
-                start)
-              .below;
+            subst (λ a. Under o a b) (l .one-neutral-left _ (walk-weight k s t))
+            (single-walks-under s t b w k 0
+            (λ m c le v. record { left = walked-weight v; right = w; below = h (m, omega arith, c, v) })
+            s
+            (o .one)
+            start)
+            .below;
+      }
+
+  pub rounds : (k : ℕ) → Rounds o same step k
+  rounds k =
+      record {
+        single-walks = walk-lub k;
+        joined-copies = walk-copies k;
+        rises = walk-rises k;
+        ends = λ s U met h. walk-ends U s met k h;
+        all-rounds = λ s U met h t. settled-walks s t k (ended-above U s met k h t);
+        star = λ s U met h t. settled-star s t k (ended-above U s met k h t);
+        stopped-star = λ stop s t. settled-star s t k (stopped-above k stop s t);
+        ends-by-answer = λ n stop s U met h. walk-ends U s (meets-by-answer n stop U s met) k h;
       }

@@ -252,10 +252,10 @@ module _ {o : Ops} (l : Laws o) where
     joins-twice-under xs ys g w =
         joins-least xs (λ x. joins o ys (g x)) (joins-weight ys columns column-weight)
         (λ x m.
-          joins-least ys (g x) (joins-weight ys columns column-weight)
-            (λ y n.
-              under-trans (joins-upper xs (λ z. g z y) (λ z k. w z k y n) x m)
-                (joins-upper ys columns column-weight y n)))
+        joins-least ys (g x) (joins-weight ys columns column-weight)
+        (λ y n.
+        under-trans (joins-upper xs (λ z. g z y) (λ z k. w z k y n) x m)
+        (joins-upper ys columns column-weight y n)))
       where
         columns : Y → ℕ
         columns y = joins o xs (λ x. g x y)
