@@ -6,7 +6,7 @@ use Prim.Native.Nat.{ℕ, suc, _≤_}
 use lib.ListN.{length}
 use Rattle.weights.specs.Weights.{Ops}
 use Rattle.weights.specs.Order.{In, Lub, Under, joins}
-use Rattle.walks.specs.Walks.{Same, Steps, Walked, Meets-only, copies, walk, up-to}
+use Rattle.walks.specs.Walks.{Same, Steps, Walked, Meets-only, power, walk, up-to}
 
 -- the round after round k changes nothing
 abbrev pub Stopped : (o : Ops) {X : Type 0} → Same X → Steps X → ℕ → Type 0
@@ -18,7 +18,7 @@ pub record Rounds (o : Ops) {X : Type 0} (same : Same X) (step : Steps X) (k : �
       (s t : X) →
       Lub o {I = (n : ℕ) × (n ≤ k) × (c : ℕ) × Walked o step s n t c} (λ i. i .2) (walk o same step k s t)
   -- they join no, one, and so on up to k copies of the steps in sequence
-  pub joined-copies : (s t : X) → walk o same step k s t ≡ joins o (up-to k) (λ i. copies o same step i s t)
+  pub joined-powers : (s t : X) → walk o same step k s t ≡ joins o (up-to k) (λ i. power o same step i s t)
   -- one round more weighs no less
   pub rises : (s t : X) → Under o (walk o same step k s t) (walk o same step (suc k) s t)
   -- from a state whose walks meet at most k others with a weight that is not zero, one round more changes nothing
@@ -41,9 +41,9 @@ pub record Rounds (o : Ops) {X : Type 0} (same : Same X) (step : Steps X) (k : �
       Meets-only o step s U →
       length U ≤ k →
       (t : X) →
-      Lub o (λ i. copies o same step i s t) (walk o same step k s t)
+      Lub o (λ i. power o same step i s t) (walk o same step k s t)
   -- they are it also wherever the next round is seen to change nothing
-  pub stopped-star : Stopped o same step k → (s t : X) → Lub o (λ i. copies o same step i s t) (walk o same step k s t)
+  pub stopped-star : Stopped o same step k → (s t : X) → Lub o (λ i. power o same step i s t) (walk o same step k s t)
   -- and enough of them are as many as the states other than s to which the rounds, once stopped, are not zero
   pub ends-by-answer :
       (n : ℕ) →
