@@ -651,6 +651,7 @@ module _ {o : Ops} (l : Laws o) {X : Type 0} (same : Same X) (step : Steps X) (w
         joined-powers = walk-powers k;
         rises = walk-rises k;
         ends = λ s U met h. walk-ends U s met k h;
+        stops = λ few s. walk-ends (few s .0) s (few s .1) k (few s .2);
         all-rounds = λ s U met h t. settled-walks s t k (ended-above U s met k h t);
         star = λ s U met h t. settled-star s t k (ended-above U s met k h t);
         stopped-star = λ stop s t. settled-star s t k (stopped-above k stop s t);

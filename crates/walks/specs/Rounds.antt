@@ -12,6 +12,7 @@ use Rattle.walks.specs.Walks.{Same, Steps, Walked, Meets-only, power, walk, up
 abbrev pub Stopped : (o : Ops) {X : Type 0} → Same X → Steps X → ℕ → Type 0
 Stopped o {X} same step k = (s t : X) → walk o same step (suc k) s t ≡ walk o same step k s t
 
+-- what holds of k rounds, whatever the states and the steps are
 pub record Rounds (o : Ops) {X : Type 0} (same : Same X) (step : Steps X) (k : ℕ) : Type 0 where
   -- k rounds weigh the least upper bound of the single walks of at most k steps
   pub single-walks :
@@ -28,7 +29,11 @@ pub record Rounds (o : Ops) {X : Type 0} (same : Same X) (step : Steps X) (k : �
       length U ≤ k →
       (t : X) →
       walk o same step (suc k) s t ≡ walk o same step k s t
-  -- nor does any number of rounds more
+  -- so the rounds stop at k if this holds of every state
+  pub stops :
+      ((s : X) → (U : List X) × Meets-only o step s U × (length U ≤ k)) →
+      Stopped o same step k
+  -- nor does any number of rounds more change anything from such a state
   pub all-rounds :
       (s : X) (U : List X) →
       Meets-only o step s U →

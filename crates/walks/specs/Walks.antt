@@ -14,6 +14,7 @@ Same X = (x y : X) → Dec (x ≡ y)
 abbrev pub Steps : Type 0 → Type 0
 Steps X = X → List (X × ℕ)
 
+-- a where P holds, else b
 abbrev pub pick : {P : Type 0} → Dec P → ℕ → ℕ → ℕ
 pick (yes p) a b = a
 pick (no n) a b = b
