@@ -1,6 +1,5 @@
 -- Three places and the ways between them.
-use mathlib.Core.List.{List, [], _∷_}
-use mathlib.Core.Path.{_≡_}
+use mathlib.Core.List.{[], _∷_}
 use Prim.Native.Nat.{ℕ, zero, suc}
 use native.Mathlib.Decide.{ℕ-discrete}
 use Rattle.weights.specs.Kinds.{cost-ops}

@@ -8,8 +8,8 @@ use native.Mathlib.Omega.{arith}
 use lib.ListN.{length}
 use Rattle.weights.specs.Weights.{Ops, Laws, Weight}
 use Rattle.weights.specs.Order.{In, Lub, Under, joins}
-use Rattle.weights.proofs.Order.{under-refl, under-trans, under-antisym, under-zero, zero-under, join-left, join-right, join-least, join-mono, times-mono-left, times-mono-right, times-under-right, joins-weight, joins-upper, joins-least, joins-mono, joins-equal, joins-map, joins-swap, joins-times, times-joins, join-zero}
-use Rattle.walks.specs.Walks.{Same, Steps, pick, Weighed, stay, copies, walk, Walked, start, onward, Meets-only, up-to}
+use Rattle.weights.proofs.Order.{under-refl, under-trans, under-antisym, under-zero, zero-under, join-left, join-right, join-least, times-mono-left, times-mono-right, times-under-right, joins-weight, joins-upper, joins-least, joins-equal, joins-map, joins-swap, joins-times, times-joins, join-zero}
+use Rattle.walks.specs.Walks.{Same, Steps, pick, Weighed, stay, power, walk, Walked, start, onward, Meets-only, up-to}
 use Rattle.walks.specs.Rounds.{Rounds}
 
 -- what is left of a list without one of its elements
@@ -390,42 +390,42 @@ module _ {o : Ops} (l : Laws o) {X : Type 0} (same : Same X) (step : Steps X) (w
       go (yes h) ih = subst (λ a. Under o a (walk o same step k s t)) (sym (fixed j h)) ih
       go (no n) ih = walk-up (suc j) k (omega arith) s t
 
-  pub copies-weight : (i : ℕ) (s t : X) → Weight o (copies o same step i s t)
-  copies-weight zero s t = stay-weight s t
-  copies-weight (suc i) s t =
-      joins-weight l (step s) _ (λ p m. l .times-weight _ _ (weighed s p m) (copies-weight i (p .0) t))
+  pub power-weight : (i : ℕ) (s t : X) → Weight o (power o same step i s t)
+  power-weight zero s t = stay-weight s t
+  power-weight (suc i) s t =
+      joins-weight l (step s) _ (λ p m. l .times-weight _ _ (weighed s p m) (power-weight i (p .0) t))
 
-  pub copies-walk : (i : ℕ) (s t : X) → Under o (copies o same step i s t) (walk o same step i s t)
-  copies-walk zero s t = under-refl l (stay-weight s t)
-  copies-walk (suc i) s t =
+  pub power-walk : (i : ℕ) (s t : X) → Under o (power o same step i s t) (walk o same step i s t)
+  power-walk zero s t = under-refl l (stay-weight s t)
+  power-walk (suc i) s t =
       joins-least l (step s) _ (walk-weight (suc i) s t)
-      (λ p m. under-trans l (times-mono-right l (weighed s p m) (copies-walk i (p .0) t)) (walk-onward i s t p m))
+      (λ p m. under-trans l (times-mono-right l (weighed s p m) (power-walk i (p .0) t)) (walk-onward i s t p m))
 
   -- walks of at most k steps are no, one, up to k copies of the steps
-  pub walk-copies :
+  pub walk-powers :
       (k : ℕ) (s t : X) →
-      walk o same step k s t ≡ joins o (up-to k) (λ i. copies o same step i s t)
-  walk-copies zero s t = sym (join-zero l (stay-weight s t))
-  walk-copies (suc k) s t =
+      walk o same step k s t ≡ joins o (up-to k) (λ i. power o same step i s t)
+  walk-powers zero s t = sym (join-zero l (stay-weight s t))
+  walk-powers (suc k) s t =
       ap (o .join (stay o same s t))
       (joins-equal l (step s) _ _
       (λ p m.
-      ap (o .times (p .1)) (walk-copies k (p .0) t) ∙
-      times-joins l (p .1) (up-to k) (λ i. copies o same step i (p .0) t) (weighed s p m)
-      (λ i n. copies-weight i (p .0) t)) ∙
-      joins-swap l (step s) (up-to k) (λ p i. o .times (p .1) (copies o same step i (p .0) t))
-      (λ p m i n. l .times-weight _ _ (weighed s p m) (copies-weight i (p .0) t)) ∙
-      sym (joins-map l suc (up-to k) (λ i. copies o same step i s t)))
+      ap (o .times (p .1)) (walk-powers k (p .0) t) ∙
+      times-joins l (p .1) (up-to k) (λ i. power o same step i (p .0) t) (weighed s p m)
+      (λ i n. power-weight i (p .0) t)) ∙
+      joins-swap l (step s) (up-to k) (λ p i. o .times (p .1) (power o same step i (p .0) t))
+      (λ p m i n. l .times-weight _ _ (weighed s p m) (power-weight i (p .0) t)) ∙
+      sym (joins-map l suc (up-to k) (λ i. power o same step i s t)))
 
   -- what is above each number of copies up to k is above the walks of at most k steps
   pub walk-under :
       (k : ℕ) (s t : X) {b : ℕ} →
       Weight o b →
-      ((i : ℕ) → i ≤ k → Under o (copies o same step i s t) b) →
+      ((i : ℕ) → i ≤ k → Under o (power o same step i s t) b) →
       Under o (walk o same step k s t) b
   walk-under k s t {b} w h =
-      subst (λ a. Under o a b) (sym (walk-copies k s t))
-      (joins-least l (up-to k) (λ i. copies o same step i s t) w (λ i m. h i (up-to-below k i m)))
+      subst (λ a. Under o a b) (sym (walk-powers k s t))
+      (joins-least l (up-to k) (λ i. power o same step i s t) w (λ i m. h i (up-to-below k i m)))
 
   -- where the walks from s to t settle, they are the star of the steps
   pub settled-walks :
@@ -438,14 +438,14 @@ module _ {o : Ops} (l : Laws o) {X : Type 0} (same : Same X) (step : Steps X) (w
   pub settled-star :
       (s t : X) (k : ℕ) →
       ((j : ℕ) → Under o (walk o same step j s t) (walk o same step k s t)) →
-      Lub o (λ i. copies o same step i s t) (walk o same step k s t)
+      Lub o (λ i. power o same step i s t) (walk o same step k s t)
   settled-star s t k above =
       record {
         weight = walk-weight k s t;
-        upper = λ i. under-trans l (copies-walk i s t) (above i) .below;
+        upper = λ i. under-trans l (power-walk i s t) (above i) .below;
         least =
             λ b w h.
-            walk-under k s t w (λ i n. record { left = copies-weight i s t; right = w; below = h i }) .below;
+            walk-under k s t w (λ i n. record { left = power-weight i s t; right = w; below = h i }) .below;
       }
 
   pub ended-above :
@@ -488,64 +488,64 @@ module _ {o : Ops} (l : Laws o) {X : Type 0} (same : Same X) (step : Steps X) (w
   stopped-above k stop s t = walk-settled s t k (λ j n. stopped-stays k stop j n s t)
 
   -- a single walk weighs no more than all of its length
-  copies-self : (s : X) → copies o same step 0 s s ≡ o .one
-  copies-self s = go (same s s)
+  power-self : (s : X) → power o same step 0 s s ≡ o .one
+  power-self s = go (same s s)
     where
       go : (d : Dec (s ≡ s)) → pick d (o .one) (o .zero) ≡ o .one
       go (yes e) = refl
       go (no n) = absurd (n refl)
 
-  copies-onward :
+  power-onward :
       (i : ℕ) (s t : X) (p : X × ℕ) →
       In p (step s) →
-      Under o (o .times (p .1) (copies o same step i (p .0) t)) (copies o same step (suc i) s t)
-  copies-onward i s t p m =
-      joins-upper l (step s) (λ q. o .times (q .1) (copies o same step i (q .0) t))
-      (λ q n. l .times-weight _ _ (weighed s q n) (copies-weight i (q .0) t)) p m
+      Under o (o .times (p .1) (power o same step i (p .0) t)) (power o same step (suc i) s t)
+  power-onward i s t p m =
+      joins-upper l (step s) (λ q. o .times (q .1) (power o same step i (q .0) t))
+      (λ q n. l .times-weight _ _ (weighed s q n) (power-weight i (q .0) t)) p m
 
-  copies-last :
+  power-last :
       (i : ℕ) (s x : X) (p : X × ℕ) →
       In p (step x) →
-      Under o (o .times (copies o same step i s x) (p .1)) (copies o same step (suc i) s (p .0))
-  copies-last zero s x p m = go (same s x)
+      Under o (o .times (power o same step i s x) (p .1)) (power o same step (suc i) s (p .0))
+  power-last zero s x p m = go (same s x)
     where
-      go : (d : Dec (s ≡ x)) → Under o (o .times (pick d (o .one) (o .zero)) (p .1)) (copies o same step 1 s (p .0))
+      go : (d : Dec (s ≡ x)) → Under o (o .times (pick d (o .one) (o .zero)) (p .1)) (power o same step 1 s (p .0))
       go (yes e) =
-          subst (λ a. Under o a (copies o same step 1 s (p .0)))
-          (ap (o .times (p .1)) (copies-self (p .0)) ∙
+          subst (λ a. Under o a (power o same step 1 s (p .0)))
+          (ap (o .times (p .1)) (power-self (p .0)) ∙
           l .one-neutral-right (p .1) (weighed x p m) ∙
           sym (l .one-neutral-left (p .1) (weighed x p m)))
-          (copies-onward 0 s (p .0) p (subst (λ y. In p (step y)) (sym e) m))
+          (power-onward 0 s (p .0) p (subst (λ y. In p (step y)) (sym e) m))
       go (no n) =
-          subst (λ a. Under o a (copies o same step 1 s (p .0))) (sym (l .zero-absorbs-left _ (weighed x p m)))
-          (zero-under l (copies-weight 1 s (p .0)))
-  copies-last (suc i) s x p m =
-      subst (λ a. Under o a (copies o same step (suc (suc i)) s (p .0)))
+          subst (λ a. Under o a (power o same step 1 s (p .0))) (sym (l .zero-absorbs-left _ (weighed x p m)))
+          (zero-under l (power-weight 1 s (p .0)))
+  power-last (suc i) s x p m =
+      subst (λ a. Under o a (power o same step (suc (suc i)) s (p .0)))
       (sym (joins-times l (p .1) (step s) on (weighed x p m) on-weight))
-      (joins-least l (step s) (λ q. o .times (on q) (p .1)) (copies-weight (suc (suc i)) s (p .0))
+      (joins-least l (step s) (λ q. o .times (on q) (p .1)) (power-weight (suc (suc i)) s (p .0))
       (λ q n.
-      subst (λ a. Under o a (copies o same step (suc (suc i)) s (p .0)))
+      subst (λ a. Under o a (power o same step (suc (suc i)) s (p .0)))
       (sym
-      (l .times-associative (q .1) (copies o same step i (q .0) x) (p .1) (weighed s q n)
-      (copies-weight i (q .0) x)
+      (l .times-associative (q .1) (power o same step i (q .0) x) (p .1) (weighed s q n)
+      (power-weight i (q .0) x)
       (weighed x p m)))
-      (under-trans l (times-mono-right l (weighed s q n) (copies-last i (q .0) x p m))
-      (copies-onward (suc i) s (p .0) q n))))
+      (under-trans l (times-mono-right l (weighed s q n) (power-last i (q .0) x p m))
+      (power-onward (suc i) s (p .0) q n))))
     where
       on : X × ℕ → ℕ
-      on q = o .times (q .1) (copies o same step i (q .0) x)
+      on q = o .times (q .1) (power o same step i (q .0) x)
 
       on-weight : (q : X × ℕ) → In q (step s) → Weight o (on q)
-      on-weight q n = l .times-weight _ _ (weighed s q n) (copies-weight i (q .0) x)
+      on-weight q n = l .times-weight _ _ (weighed s q n) (power-weight i (q .0) x)
 
   pub walked-under :
       {s : X} {n : ℕ} {x : X} {c : ℕ} →
       Walked o step s n x c →
-      Under o c (copies o same step n s x)
+      Under o c (power o same step n s x)
   walked-under {s} start =
-      subst (Under o (o .one)) (sym (copies-self s)) (under-refl l (l .one-weight))
+      subst (Under o (o .one)) (sym (power-self s)) (under-refl l (l .one-weight))
   walked-under {s} (onward {n = n} {x = x} {y = y} {c = c} {w = w} v m) =
-      under-trans l (times-mono-left l (weighed x (y, w) m) (walked-under v)) (copies-last n s x (y, w) m)
+      under-trans l (times-mono-left l (weighed x (y, w) m) (walked-under v)) (power-last n s x (y, w) m)
 
   -- a state met by a walk that is not zero is one to which the walks together are not zero
   pub meets-by-weight :
@@ -557,7 +557,7 @@ module _ {o : Ops} (l : Laws o) {X : Type 0} (same : Same X) (step : Steps X) (w
       (λ e.
       nonzero
       (under-zero l
-      (subst (Under o c) e (under-trans l (walked-under v) (copies-walk n s x)))))
+      (subst (Under o c) e (under-trans l (walked-under v) (power-walk n s x)))))
 
   -- the states to which a stopped round is not zero are all that walks meet
   pub meets-by-answer :
@@ -631,7 +631,7 @@ module _ {o : Ops} (l : Laws o) {X : Type 0} (same : Same X) (step : Steps X) (w
         weight = walk-weight k s t;
         upper =
             λ i.
-            under-trans l (walked-under (i .3)) (under-trans l (copies-walk (i .0) s t) (walk-up (i .0) k (i .1) s t))
+            under-trans l (walked-under (i .3)) (under-trans l (power-walk (i .0) s t) (walk-up (i .0) k (i .1) s t))
             .below;
         least =
             λ b w h.
@@ -648,9 +648,10 @@ module _ {o : Ops} (l : Laws o) {X : Type 0} (same : Same X) (step : Steps X) (w
   rounds k =
       record {
         single-walks = walk-lub k;
-        joined-copies = walk-copies k;
+        joined-powers = walk-powers k;
         rises = walk-rises k;
         ends = λ s U met h. walk-ends U s met k h;
+        stops = λ few s. walk-ends (few s .0) s (few s .1) k (few s .2);
         all-rounds = λ s U met h t. settled-walks s t k (ended-above U s met k h t);
         star = λ s U met h t. settled-star s t k (ended-above U s met k h t);
         stopped-star = λ stop s t. settled-star s t k (stopped-above k stop s t);

@@ -2,10 +2,9 @@
 use mathlib.Core.Path.{_≡_}
 use mathlib.Core.List.{List, [], _∷_, map}
 use mathlib.Core.Logic.{_⊎_}
-use Prim.Native.Nat.{ℕ, zero, suc, _≤_}
-use lib.ListN.{length}
+use Prim.Native.Nat.{ℕ, zero, suc}
 use Rattle.weights.specs.Weights.{Ops, Weight}
-use Rattle.weights.specs.Order.{In, Lub, Under, joins}
+use Rattle.weights.specs.Order.{In, joins}
 
 -- states can be told apart
 abbrev pub Same : Type 0 → Type 0
@@ -15,6 +14,7 @@ Same X = (x y : X) → Dec (x ≡ y)
 abbrev pub Steps : Type 0 → Type 0
 Steps X = X → List (X × ℕ)
 
+-- a where P holds, else b
 abbrev pub pick : {P : Type 0} → Dec P → ℕ → ℕ → ℕ
 pick (yes p) a b = a
 pick (no n) a b = b
@@ -29,9 +29,9 @@ stay o same s t = pick (same s t) (o .one) (o .zero)
 
 module _ (o : Ops) {X : Type 0} (same : Same X) (step : Steps X) where
   -- all walks of exactly i steps from s to t: i copies of the steps in sequence
-  abbrev pub copies : ℕ → X → X → ℕ
-  copies zero s t = stay o same s t
-  copies (suc i) s t = joins o (step s) (λ p. o .times (p .1) (copies i (p .0) t))
+  abbrev pub power : ℕ → X → X → ℕ
+  power zero s t = stay o same s t
+  power (suc i) s t = joins o (step s) (λ p. o .times (p .1) (power i (p .0) t))
 
   -- all walks of at most k steps from s to t, as the rounds of star make them
   abbrev pub walk : ℕ → X → X → ℕ

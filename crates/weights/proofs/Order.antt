@@ -1,11 +1,11 @@
 -- Theory of the order of weights, from the laws alone.
 use mathlib.Core.Path.{_≡_, refl, sym, _∙_, ap, subst}
-use mathlib.Core.Bool.{Bool, true, false}
+use mathlib.Core.Bool.{true, false}
 use mathlib.Core.List.{List, [], _∷_, _++_, map}
-use mathlib.Core.Logic.{_⊎_, inl, inr}
+use mathlib.Core.Logic.{inl, inr}
 use Prim.Native.Nat.{ℕ}
 use Rattle.weights.specs.Weights.{Ops, Laws, Weight}
-use Rattle.weights.specs.Order.{Below, Under, Lub, two, In, joins}
+use Rattle.weights.specs.Order.{Under, Lub, two, In, joins}
 
 module _ {o : Ops} (l : Laws o) where
   pub under-refl : {a : ℕ} → Weight o a → Under o a a
@@ -206,7 +206,6 @@ module _ {o : Ops} (l : Laws o) where
         ((x : X) → In x xs → Weight o (h x)) →
         joins o xs (λ x. o .join (g x) (h x)) ≡ o .join (joins o xs g) (joins o xs h)
     joins-join xs g h v w =
-        let both = λ (x : X) (m : In x xs). l .join-weight (g x) (h x) (v x m) (w x m) in
         under-antisym
         (joins-least xs (λ x. o .join (g x) (h x))
         (l .join-weight (joins o xs g) (joins o xs h) (joins-weight xs g v) (joins-weight xs h w))
