@@ -5,7 +5,8 @@ ghost use Rattle.format.specs.Fields.{fields, LegalValue};
 
 use format::FIELDS;
 
-const WIDTH: usize = FIELDS as usize;
+// How many values a frame has.
+pub const WIDTH: usize = FIELDS as usize;
 
 // The values of the fields, field 0 first, each legal.
 #[derive(Clone, Copy)]

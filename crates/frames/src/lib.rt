@@ -3,6 +3,7 @@ ghost use mathlib.Core.Path.{_≡_};
 ghost use mathlib.Core.List.{List};
 ghost use Prim.Native.Nat.{ℕ, _<_};
 ghost use lib.ListN.{length, getD, set};
+ghost use Rattle.std.specs.Orderings.{Decides};
 ghost use Rattle.std.specs.Results.{Cases};
 ghost use Rattle.format.specs.Fields.{fields, LegalValue};
 ghost use Rattle.format.specs.Words.{word, value-of};
@@ -13,25 +14,28 @@ mod frame;
 
 use faults::FrameFault;
 use format::FIELDS;
+use format::FIELD_UNIT;
+use format::KIND_UNIT;
 use format::Setting;
 use format::Word;
 pub use frame::Frame;
+use frame::WIDTH;
 
 // The kind of a frame's words.
 const FRAME_KIND: u32 = 9;
 
 // The value in a frame's word, which has to be that of the field at this place.
-fn field_value(place: u32, bits: u32) -> Result<u32, FrameFault>
+fn field_value(place: usize, bits: u32) -> Result<u32, FrameFault>
     requires { ⌜ place < fields ⌝ }
     ensures { λ r. ⌜ Cases r (λ n. (bits ≡ word 9 place n) × LegalValue place n) (λ e. (e ≡ BadWord place) × (FieldWord place bits → ⊥)) ⌝ }
 {
     let word = Word::split(bits);
-    if word.kind != FRAME_KIND || word.field != place {
-        return Err(FrameFault::BadWord(place as usize));
+    if word.kind != FRAME_KIND || word.field as usize != place {
+        return Err(FrameFault::BadWord(place));
     }
-    match Setting::new(place, word.value) {
+    match Setting::new(word.field, word.value) {
         Some(setting) => Ok(setting.value),
-        None => Err(FrameFault::BadWord(place as usize)),
+        None => Err(FrameFault::BadWord(place)),
     }
 }
 
@@ -44,16 +48,17 @@ impl Frame {
         let [a, b, c, d, e, f, g, h] = words else {
             return Err(FrameFault::Length);
         };
-        let values = [
-            field_value(0, *a)?,
-            field_value(1, *b)?,
-            field_value(2, *c)?,
-            field_value(3, *d)?,
-            field_value(4, *e)?,
-            field_value(5, *f)?,
-            field_value(6, *g)?,
-            field_value(7, *h)?,
-        ];
+        Frame::of([*a, *b, *c, *d, *e, *f, *g, *h])
+    }
+
+    // The frame of these words, one for each field.
+    fn of(words: [u32; WIDTH]) -> Result<Frame, FrameFault>
+        ensures { λ r. ⌜ Cases r (λ s. words ≡ frame-words (s .values)) (λ e. NoFrame e words) ⌝ }
+    {
+        let mut values = [0; WIDTH];
+        for place in 0..WIDTH {
+            values[place] = field_value(place, words[place])?;
+        }
         Ok(Frame { values })
     }
 
@@ -81,11 +86,31 @@ impl Frame {
     pub fn before(&self, other: &Frame) -> bool
         ensures { λ r. ⌜ r ≡ before (now (self .entry) .values) (now (other .entry) .values) ⌝ }
     {
-        for field in 0..FIELDS as usize {
+        for field in 0..WIDTH {
             if self.values[field] != other.values[field] {
                 return self.values[field] < other.values[field];
             }
         }
         false
+    }
+
+    // Whether two frames have the same values.
+    pub fn same(&self, other: &Frame) -> bool
+        ensures { λ r. ⌜ Decides r (now (self .entry) .values ≡ now (other .entry) .values) ⌝ }
+    {
+        self.values == other.values
+    }
+
+    // The frame's words.
+    pub fn words(&self) -> [u32; WIDTH]
+        ensures { λ r. ⌜ r ≡ frame-words (now (self .entry) .values) ⌝ }
+    {
+        let mut words = self.values;
+        let mut head = FRAME_KIND * KIND_UNIT;
+        for field in 0..WIDTH {
+            words[field] = head + self.values[field];
+            head += FIELD_UNIT;
+        }
+        words
     }
 }
