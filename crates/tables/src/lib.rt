@@ -1,8 +1,13 @@
 // Tables of match rows: checked word by word, looked up, and frames forwarded through them.
-ghost use mathlib.Core.Path.{_≡_};
-ghost use Rattle.tables.specs.Rows.{LegalTable};
-ghost use Rattle.tables.specs.Emits.{Answer};
+mod check;
+mod state;
 
+pub use check::check_table;
+pub use check::CheckedTable;
+
+// The kinds of a table's words.
 pub const HEAD: u32 = 10;
-
-fn one() -> u32 { 1 }
+pub const MATCH: u32 = 11;
+pub const WEIGHT: u32 = 12;
+pub const SET: u32 = 13;
+pub const END: u32 = 14;
