@@ -2,8 +2,9 @@
 mod check;
 mod state;
 
-pub use check::check_table;
+
 pub use check::CheckedTable;
+pub use check::check_table;
 
 // The kinds of a table's words.
 pub const HEAD: u32 = 10;
