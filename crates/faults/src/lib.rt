@@ -3,18 +3,21 @@ ghost use mathlib.Core.Path.{_≡_};
 ghost use Rattle.std.specs.Of.Vec.{vec-items};
 ghost use Rattle.std.specs.Vec.{made};
 ghost use Rattle.faults.specs.Lines.{refused-line};
-ghost use Rattle.faults.specs.Shows.{shown, token-shown, grammar-shown, check-shown, compile-shown};
+ghost use Rattle.faults.specs.Shows.{shown, token-shown, grammar-shown, check-shown, compile-shown, table-shown, frame-shown};
 
 mod layers;
 
+use format::FIELDS;
 use format::TEXT_LIMIT;
 use format::WORDS_LIMIT;
 pub use layers::CheckFault;
 pub use layers::CompileFault;
 pub use layers::CompileFromCheck;
 pub use layers::CompileFromGrammar;
+pub use layers::FrameFault;
 pub use layers::GrammarFault;
 pub use layers::GrammarFromToken;
+pub use layers::TableFault;
 pub use layers::TokenFault;
 use numerals::push_decimal;
 use std::alloc::AllocError;
@@ -93,6 +96,29 @@ impl CompileFault {
     }
 }
 
+impl TableFault {
+    pub fn shown(self) -> Shown
+        ensures { λ r. ⌜ r ≡ table-shown self ⌝ }
+    {
+        match self {
+            TableFault::Illegal(place) => Shown::of(15, 5, place),
+        }
+    }
+}
+
+impl FrameFault {
+    pub fn shown(self) -> Shown
+        ensures { λ r. ⌜ r ≡ frame-shown self ⌝ }
+    {
+        let layer = 6;
+        match self {
+            FrameFault::Length => Shown::of(12, layer, FIELDS as usize),
+            FrameFault::BadWord(place) => Shown::of(12, layer, place),
+            FrameFault::NoRoom => Shown::of(13, layer, 0),
+        }
+    }
+}
+
 // The line by which a refusal is told.
 pub fn refused_line(heap: Global, shown: Shown) -> Result<Vec<u8>, AllocError>
     ensures { λ r. ⌜ made r (λ v. vec-items v ≡ refused-line shown) ⌝ }
@@ -106,3 +132,4 @@ pub fn refused_line(heap: Global, shown: Shown) -> Result<Vec<u8>, AllocError>
     line.push(b'\n')?;
     Ok(line)
 }
+
