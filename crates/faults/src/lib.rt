@@ -132,4 +132,3 @@ pub fn refused_line(heap: Global, shown: Shown) -> Result<Vec<u8>, AllocError>
     line.push(b'\n')?;
     Ok(line)
 }
-
