@@ -1,0 +1,1 @@
+// The symbols of a policy text read by an automaton that writes the policy's words.
