@@ -1,1 +1,2 @@
 // The symbols of a policy text read by an automaton that writes the policy's words.
+mod machine;
