@@ -16,7 +16,15 @@ use Rattle.tokens.specs.declared.tokens.Symbol.the-variants.{Field, Number, Dro
 use Rattle.grammar.specs.declared.machine.Mode.{Mode}
 use Rattle.grammar.specs.declared.machine.Mode.the-variants.{Operand, Operator, Relation, Tested, Assigned, Price}
 use Rattle.grammar.specs.Sentences.{Sum, Chain, Step, Atom, Viable}
-use Rattle.grammar.proofs.Trees.{Parse, parse, Opened, negation, group, rest, negated, completed, chained, united, summed, runs, runs-append, bind, begin, step, acted, expect, operand, legal}
+use Rattle.grammar.specs.Trees.{Parse, parse, Opened, negation, group, rest, negated, completed, chained, united, summed, runs, bind, begin, step, acted, expect, operand, legal}
+
+pub runs-append : (ss ts : List Symbol) (g : Parse) → runs g (ss ++ ts) ≡ bind (runs g ss) (λ h. runs h ts)
+runs-append [] ts g = refl
+runs-append (s ∷ ss) ts g = go (runs-append ss ts) (step g s)
+  where
+    go : ((h : Parse) → runs h (ss ++ ts) ≡ bind (runs h ss) (λ k. runs k ts)) → (o : Option Parse) → bind o (λ h. runs h (ss ++ ts)) ≡ bind (bind o (λ h. runs h ss)) (λ h. runs h ts)
+    go again None = refl
+    go again (Some h) = again h
 
 -- no ! stands right before the next operand
 abbrev pub Settled : List Opened → Type 0

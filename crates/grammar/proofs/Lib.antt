@@ -1,3 +1,3 @@
-pub mod Trees
 pub mod Complete
 pub mod Sound
+pub mod Counts

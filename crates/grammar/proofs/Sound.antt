@@ -17,8 +17,8 @@ use Rattle.tokens.specs.declared.tokens.Symbol.the-variants.{Field, Number, Dro
 use Rattle.grammar.specs.declared.machine.Mode.{Mode}
 use Rattle.grammar.specs.declared.machine.Mode.the-variants.{Operand, Operator, Relation, Tested, Assigned, Price}
 use Rattle.grammar.specs.Sentences.{Sum, Chain, Step, Atom, Viable}
-use Rattle.grammar.proofs.Trees.{Act, Parse, parse, Opened, negation, group, rest, negated, completed, closes, chained, united, summed, runs, runs-append, bind, begin, step, acted, act, expect, operand, legal, first, later, relation, value, decision, nested}
-use Rattle.grammar.proofs.Complete.{Settled, settled-completes, sum-runs}
+use Rattle.grammar.specs.Trees.{Act, Parse, parse, Opened, negation, group, rest, negated, completed, closes, chained, united, summed, runs, bind, begin, step, acted, act, expect, operand, legal, first, later, relation, value, decision, nested}
+use Rattle.grammar.proofs.Complete.{Settled, settled-completes, sum-runs, runs-append}
 
 -- these symbols stand before an operand: the sum and the chain that wait are sentences of theirs, and each frame is a ! or a (
 pub data Before : List Symbol → Option Policy → Option Policy → List Opened → Type 0 where

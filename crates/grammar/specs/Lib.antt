@@ -1,1 +1,3 @@
 pub mod Sentences
+pub mod Trees
+pub mod Outlines

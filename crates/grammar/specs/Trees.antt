@@ -1,7 +1,7 @@
 -- An automaton that reads symbols into trees, of which the program's automaton keeps the outline.
-use mathlib.Core.Path.{_≡_, refl, sym, ap, _∙_}
+use mathlib.Core.Path.{_≡_}
 use mathlib.Core.Bool.{Bool, true, false, cond, _&&_}
-use mathlib.Core.List.{List, [], _∷_, _++_, append-assoc}
+use mathlib.Core.List.{List, [], _∷_, _++_}
 use Prim.Native.Nat.{ℕ, _<_}
 use lib.Dec.{ltb}
 use Rattle.std.specs.declared.option.Option.{Option}
@@ -169,11 +169,3 @@ runs g (s ∷ ss) = bind (step g s) (λ h. runs h ss)
 
 abbrev pub begin : Parse
 begin = parse Operand None None [] Policy.Drop
-
-pub runs-append : (ss ts : List Symbol) (g : Parse) → runs g (ss ++ ts) ≡ bind (runs g ss) (λ h. runs h ts)
-runs-append [] ts g = refl
-runs-append (s ∷ ss) ts g = go (runs-append ss ts) (step g s)
-  where
-    go : ((h : Parse) → runs h (ss ++ ts) ≡ bind (runs h ss) (λ k. runs k ts)) → (o : Option Parse) → bind o (λ h. runs h (ss ++ ts)) ≡ bind (bind o (λ h. runs h ss)) (λ h. runs h ts)
-    go again None = refl
-    go again (Some h) = again h
