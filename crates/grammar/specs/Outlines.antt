@@ -10,7 +10,9 @@ use Rattle.format.specs.Limits.{nesting-limit}
 use Rattle.format.specs.Policy.{Policy, postfix}
 use Rattle.format.specs.PolicyWords.{bits-of}
 use Rattle.format.specs.Words.{word}
+use Rattle.tokens.specs.declared.tokens.Mark.the-variants.{Plus, Semicolon, Star as MarkStar, Not as MarkNot, Open as MarkOpen, Close as MarkClose, Equals, Assign}
 use Rattle.tokens.specs.declared.tokens.Symbol.{Symbol}
+use Rattle.tokens.specs.declared.tokens.Symbol.the-variants.{Field, Number, Drop, Pass, Cost, Mark}
 use Rattle.grammar.specs.declared.machine.Action.{Action}
 use Rattle.grammar.specs.declared.machine.Action.the-variants.{Expect, Operand, Negate, Open, Star, Chain, Sum, Close}
 use Rattle.grammar.specs.declared.machine.Frame.{Frame}
@@ -44,6 +46,14 @@ abbrev pub frame-of : Opened → Frame
 frame-of negation = Negation
 frame-of (group l e) = Group (level-of l e)
 
+abbrev pub frame-level : Frame → Level
+frame-level Negation = record { sum = false; chain = false }
+frame-level (Group l) = l
+
+abbrev pub negates : Frame → Bool
+negates Negation = true
+negates (Group l) = false
+
 -- the frames stand on the stack, the latest on top
 abbrev pub Stacked : List Opened → List Frame → ℕ → Type 0
 Stacked [] stack depth = depth ≡ 0
@@ -54,6 +64,7 @@ pub record Outline (g : Parse) (m : Machine) : Type 0 where
   pub level : m .level ≡ level-of (g .left) (g .early)
   pub stacked : Stacked (g .frames) (m .stack) (m .depth)
   pub tall : length (m .stack) ≡ nesting-limit
+  pub within : m .depth ≤ nesting-limit
 
 -- n words were written after the first ones
 pub record Appended (was : List ℕ) (at : ℕ) (is : List ℕ) (end : ℕ) (ws : List ℕ) : Type 0 where
@@ -81,6 +92,27 @@ abbrev pub outer : List Opened → List Opened
 outer [] = []
 outer (f ∷ fs) = fs
 
+-- the words of what waits and of the latest operand
+abbrev pub held : Option Policy → List ℕ
+held None = []
+held (Some p) = postfix p
+
+abbrev pub frame-words : List Opened → List ℕ
+frame-words [] = []
+frame-words (negation ∷ fs) = frame-words fs
+frame-words (group l e ∷ fs) = frame-words fs ++ (held l ++ held e)
+
+abbrev pub operand-words : Mode → Policy → List ℕ
+operand-words AtOperand p = []
+operand-words Operator p = postfix p
+operand-words (Relation f) p = []
+operand-words (Tested f) p = []
+operand-words (Assigned f) p = []
+operand-words Price p = []
+
+abbrev pub words-of : Parse → List ℕ
+words-of g = frame-words (g .frames) ++ ((held (g .left) ++ held (g .early)) ++ operand-words (g .mode) (g .tree))
+
 -- the words that an action writes
 abbrev pub extra : Act → Parse → List ℕ
 extra (expect m) g = []
@@ -91,6 +123,22 @@ extra starring g = word 8 0 0 ∷ []
 extra chaining g = chain-words (waits (g .early))
 extra adding g = level-words (level-of (g .left) (g .early))
 extra closing g = level-words (level-of (g .left) (g .early)) ++ not-words (outer (g .frames))
+
+-- a symbol that opens what must be finished
+abbrev pub opens : Symbol → Bool
+opens (Field f) = false
+opens (Number n) = false
+opens Drop = false
+opens Pass = false
+opens Cost = false
+opens (Mark Plus) = false
+opens (Mark Semicolon) = false
+opens (Mark MarkStar) = false
+opens (Mark MarkNot) = true
+opens (Mark MarkOpen) = true
+opens (Mark MarkClose) = false
+opens (Mark Equals) = false
+opens (Mark Assign) = false
 
 -- no operand is at hand
 abbrev pub Idle : Mode → Type 0
@@ -111,3 +159,11 @@ Ready starring g = g .mode ≡ Operator
 Ready chaining g = g .mode ≡ Operator
 Ready adding g = g .mode ≡ Operator
 Ready closing g = (g .mode ≡ Operator) × (l : Option Policy) × (e : Option Policy) × (fs : List Opened) × (g .frames ≡ group l e ∷ fs)
+
+-- there is room for what the action writes
+abbrev pub Possible : Act → Machine → List ℕ → Type 0
+Possible a m was = (g : Parse) × Outline g m × Ready a g × (m .written + length (extra a g) ≤ length was)
+
+-- what the action does to the automaton and to the memory
+abbrev pub Performs : Act → Machine → List ℕ → Machine → List ℕ → Type 0
+Performs a m was next is = (g : Parse) → Outline g m → Ready a g → Outline (act a g) next × Appended was (m .written) is (next .written) (extra a g) × (next .needed ≡ m .needed)

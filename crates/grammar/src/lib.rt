@@ -1,2 +1,5 @@
 // The symbols of a policy text read by an automaton that writes the policy's words.
+mod decide;
 mod machine;
+mod steps;
+mod words;
