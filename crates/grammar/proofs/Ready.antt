@@ -129,13 +129,55 @@ united-words (Some q) p = sym (append-assoc (postfix q) (postfix p) (word 6 0 0 
 summed-words : (l e : Option Policy) (p : Policy) → postfix (summed l e p) ≡ ((held l ++ held e) ++ postfix p) ++ level-words (level-of l e)
 summed-words l e p = united-words l (chained e p) ∙ ap (λ x. (held l ++ x) ++ sum-words (waits l)) (chained-words e p) ∙ simp append-assoc
 
+idle-is : (g : Parse) → Idle (g .mode) → words-of g ≡ frame-words (g .frames) ++ ((held (g .left) ++ held (g .early)) ++ [])
+idle-is g i = ap (λ x. frame-words (g .frames) ++ ((held (g .left) ++ held (g .early)) ++ x)) (idle-words (g .mode) (g .tree) i)
+
+after-is : (g : Parse) → g .mode ≡ Operator → words-of g ≡ frame-words (g .frames) ++ ((held (g .left) ++ held (g .early)) ++ postfix (g .tree))
+after-is g i = ap (λ m. frame-words (g .frames) ++ ((held (g .left) ++ held (g .early)) ++ operand-words m (g .tree))) i
+
+regroup-operand : (a b c d : List ℕ) → a ++ (b ++ (c ++ d)) ≡ (a ++ (b ++ [])) ++ (c ++ d)
+regroup-operand a b c d = simp (append-nil, append-assoc)
+
+regroup-last : (a b c d : List ℕ) → a ++ (b ++ (c ++ d)) ≡ (a ++ (b ++ c)) ++ d
+regroup-last a b c d = simp append-assoc
+
+regroup-chain : (a b c d e : List ℕ) → a ++ ((b ++ ((c ++ d) ++ e)) ++ []) ≡ (a ++ ((b ++ c) ++ d)) ++ e
+regroup-chain a b c d e = simp (append-nil, append-assoc)
+
+regroup-sum : (a b c d : List ℕ) → a ++ ((((b ++ c) ++ d) ++ []) ++ []) ≡ (a ++ (b ++ c)) ++ d
+regroup-sum a b c d = simp (append-nil, append-assoc)
+
+regroup-close : (a b c d e f : List ℕ) → a ++ (b ++ (((c ++ d) ++ e) ++ f)) ≡ ((a ++ b) ++ (c ++ d)) ++ (e ++ f)
+regroup-close a b c d e f = simp append-assoc
+
 -- the words after an action are those before it and those that it writes
 pub words-grow : (a : Act) (g : Parse) → Ready a g → words-of (act a g) ≡ words-of g ++ extra a g
-words-grow (expect m) g r = ?w0
-words-grow (operand p) g r = ?w1
-words-grow negate g r = ?w2
-words-grow opening g r = ?w3
-words-grow starring g r = ?w4
-words-grow chaining g r = ?w5
-words-grow adding g r = ?w6
-words-grow closing g r = ?w7
+words-grow (expect m) g r = idle-is (act (expect m) g) (r .1) ∙ sym (append-nil _ ∙ idle-is g (r .0))
+words-grow (operand p) g r =
+    ap (λ x. x ++ ((held (g .left) ++ held (g .early)) ++ postfix (negated (g .frames) p))) (rest-words (g .frames))
+    ∙ ap (λ x. frame-words (g .frames) ++ ((held (g .left) ++ held (g .early)) ++ x)) (negated-words (g .frames) p)
+    ∙ regroup-operand (frame-words (g .frames)) (held (g .left) ++ held (g .early)) (postfix p) (not-words (g .frames))
+    ∙ sym (ap (λ x. x ++ (postfix p ++ not-words (g .frames))) (idle-is g r))
+words-grow negate g r = sym (append-nil _ ∙ idle-is g (r .0))
+words-grow opening g r = append-nil _ ∙ ap (λ x. frame-words (g .frames) ++ x) (sym (append-nil _)) ∙ sym (append-nil _ ∙ idle-is g (r .0))
+words-grow starring g r =
+    regroup-last (frame-words (g .frames)) (held (g .left) ++ held (g .early)) (postfix (g .tree)) (word 8 0 0 ∷ [])
+    ∙ sym (ap (λ x. x ++ word 8 0 0 ∷ []) (after-is g r))
+words-grow chaining g r =
+    ap (λ x. frame-words (g .frames) ++ ((held (g .left) ++ x) ++ [])) (chained-words (g .early) (g .tree))
+    ∙ regroup-chain (frame-words (g .frames)) (held (g .left)) (held (g .early)) (postfix (g .tree)) (chain-words (waits (g .early)))
+    ∙ sym (ap (λ x. x ++ chain-words (waits (g .early))) (after-is g r))
+words-grow adding g r =
+    ap (λ x. frame-words (g .frames) ++ ((x ++ []) ++ [])) (summed-words (g .left) (g .early) (g .tree))
+    ∙ regroup-sum (frame-words (g .frames)) (held (g .left) ++ held (g .early)) (postfix (g .tree)) (level-words (level-of (g .left) (g .early)))
+    ∙ sym (ap (λ x. x ++ level-words (level-of (g .left) (g .early))) (after-is g r))
+words-grow closing g r =
+    let fs = r .3 in
+    let p = summed (g .left) (g .early) (g .tree) in
+    let level = level-words (level-of (g .left) (g .early)) in
+    ap (λ x. words-of (closes x p)) (r .4)
+    ∙ ap (λ x. x ++ ((held (r .1) ++ held (r .2)) ++ postfix (negated fs p))) (rest-words fs)
+    ∙ ap (λ x. frame-words fs ++ ((held (r .1) ++ held (r .2)) ++ x)) (negated-words fs p ∙ ap (λ x. x ++ not-words fs) (summed-words (g .left) (g .early) (g .tree)))
+    ∙ regroup-close (frame-words fs) (held (r .1) ++ held (r .2)) (held (g .left) ++ held (g .early)) (postfix (g .tree)) level (not-words fs)
+    ∙ ap (λ x. (frame-words x ++ ((held (g .left) ++ held (g .early)) ++ postfix (g .tree))) ++ (level ++ not-words (outer x))) (sym (r .4))
+    ∙ sym (ap (λ x. x ++ (level ++ not-words (outer (g .frames)))) (after-is g (r .0)))

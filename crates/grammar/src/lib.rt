@@ -1,5 +1,6 @@
 // The symbols of a policy text read by an automaton that writes the policy's words.
 mod decide;
 mod machine;
+mod push;
 mod steps;
 mod words;
