@@ -5,3 +5,4 @@ pub mod Appending
 pub mod Decisions
 pub mod Outlining
 pub mod Ready
+pub mod Pushing

@@ -2,5 +2,8 @@
 mod decide;
 mod machine;
 mod push;
+mod reader;
 mod steps;
 mod words;
+
+pub use reader::parse;

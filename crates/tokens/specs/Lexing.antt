@@ -87,5 +87,5 @@ ahead text at = drop (start text at) text
 -- what the lexer at place `at` gives, and where it stands then
 abbrev pub Next : List ℕ → ℕ → Result (Option Placed) TokenFault → ℕ → Type 0
 Next text at (Ok None) after = (length text ≤ start text at) × (after ≡ start text at)
-Next text at (Ok (Some t)) after = Starts (ahead text at) (says (t .token)) (after - start text at) × (t .place ≡ start text at) × (start text at ≤ after)
+Next text at (Ok (Some t)) after = Starts (ahead text at) (says (t .token)) (after - start text at) × (t .place ≡ start text at) × (start text at < length text) × (start text at < after)
 Next text at (Err e) after = (start text at < length text) × (front (ahead text at) ≡ None) × (e ≡ NoToken (start text at)) × (after ≡ start text at)

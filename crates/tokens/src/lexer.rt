@@ -71,7 +71,7 @@ fn assigns(text: &[u8], place: usize) -> bool
 // The token that starts at a place, and where it ends.
 fn token_at(text: &[u8], place: usize) -> Option<(Token<'_>, usize)>
     requires { ⌜ place < length (now text) ⌝ }
-    ensures { λ r. ⌜ Cases r (front (drop place (now (text .entry))) ≡ None) (λ t. Starts (drop place (now (text .entry))) (says (t .0)) (t .1 - place) × (place ≤ t .1)) ⌝ }
+    ensures { λ r. ⌜ Cases r (front (drop place (now (text .entry))) ≡ None) (λ t. Starts (drop place (now (text .entry))) (says (t .0)) (t .1 - place) × (place < t .1)) ⌝ }
 {
     let b = text[place];
     if belongs(Class::Letter, b) {

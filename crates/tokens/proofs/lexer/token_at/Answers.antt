@@ -2,7 +2,7 @@ use mathlib.Core.Path.{_≡_, refl, sym, subst, _∙_}
 use Prim.Native.Nat.{ℕ, _+_, _-_}
 use native.Mathlib.Omega.{arith}
 use lib.ListN.{drop, getD, length-drop}
-use Rattle.std.proofs.shelf.Sums.{leading-le-length}
+use Rattle.std.proofs.shelf.Sums.{leading-le-length, leading-drop-yes}
 use Rattle.std.proofs.shelf.Tests.{ne-eqb}
 use Rattle.tokens.specs.declared.tokens.Class.the-variants.{Letter, Digit}
 use Rattle.tokens.specs.declared.tokens.Mark.the-variants.{Assign}
@@ -14,13 +14,13 @@ pub part-result-end : need.part-result-end
 part-result-end c = omega (arith, leading-le-length (belongs-to Letter) (drop (c .args .place) (c .args .text .now)), length-drop (c .args .place) (c .args .text .now))
 
 pub returns-then-belongs : need.returns-then-belongs
-returns-then-belongs c = (letters-start _ _ (c .pre) (sym (c .if-belongs .ensures tt)) _ (omega arith), omega arith)
+returns-then-belongs c = (letters-start _ _ (c .pre) (sym (c .if-belongs .ensures tt)) _ (omega arith), omega (arith, leading-drop-yes (belongs-to Letter) (c .args .text .now) (c .args .place) 0 (c .pre) (sym (c .if-belongs .ensures tt))))
 
 pub part-result-end-then-belongs-2 : need.part-result-end-then-belongs-2
 part-result-end-then-belongs-2 c = omega (arith, leading-le-length (belongs-to Digit) (drop (c .args .place) (c .args .text .now)), length-drop (c .args .place) (c .args .text .now))
 
 pub returns-then-belongs-2 : need.returns-then-belongs-2
-returns-then-belongs-2 c = (digits-start _ _ (c .pre) (sym (c .if-belongs .ensures tt)) (sym (c .if-belongs-2 .ensures tt)) _ (omega arith), omega arith)
+returns-then-belongs-2 c = (digits-start _ _ (c .pre) (sym (c .if-belongs .ensures tt)) (sym (c .if-belongs-2 .ensures tt)) _ (omega arith), omega (arith, leading-drop-yes (belongs-to Digit) (c .args .text .now) (c .args .place) 0 (c .pre) (sym (c .if-belongs-2 .ensures tt))))
 
 pub returns-then-assigns : need.returns-then-assigns
 returns-then-assigns c = (
