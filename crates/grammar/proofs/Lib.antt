@@ -6,3 +6,4 @@ pub mod Decisions
 pub mod Outlining
 pub mod Ready
 pub mod Pushing
+pub mod Finishing

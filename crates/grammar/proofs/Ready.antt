@@ -126,7 +126,7 @@ united-words : (l : Option Policy) (p : Policy) → postfix (united l p) ≡ (he
 united-words None p = sym (append-nil _)
 united-words (Some q) p = sym (append-assoc (postfix q) (postfix p) (word 6 0 0 ∷ []))
 
-summed-words : (l e : Option Policy) (p : Policy) → postfix (summed l e p) ≡ ((held l ++ held e) ++ postfix p) ++ level-words (level-of l e)
+pub summed-words : (l e : Option Policy) (p : Policy) → postfix (summed l e p) ≡ ((held l ++ held e) ++ postfix p) ++ level-words (level-of l e)
 summed-words l e p = united-words l (chained e p) ∙ ap (λ x. (held l ++ x) ++ sum-words (waits l)) (chained-words e p) ∙ simp append-assoc
 
 idle-is : (g : Parse) → Idle (g .mode) → words-of g ≡ frame-words (g .frames) ++ ((held (g .left) ++ held (g .early)) ++ [])
