@@ -7,3 +7,4 @@ pub mod Outlining
 pub mod Ready
 pub mod Pushing
 pub mod Finishing
+pub mod Whole
