@@ -1,0 +1,4 @@
+// Policies as text and as words.
+mod reader;
+
+pub use reader::read;
