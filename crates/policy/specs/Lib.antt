@@ -2,3 +2,4 @@ pub mod Waiting
 pub mod Checking
 pub mod Flags
 pub mod Checked
+pub mod Reading

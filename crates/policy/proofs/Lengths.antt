@@ -1,0 +1,14 @@
+-- A text that is not too long is answered as the grammar answers it.
+use mathlib.Core.List.{List}
+use Prim.Native.Nat.{ℕ, _≤_}
+use lib.ListN.{length}
+use Rattle.std.specs.declared.result.Result.{Result}
+use Rattle.std.specs.declared.result.Result.the-variants.{Ok, Err}
+use Rattle.faults.specs.declared.layers.GrammarFault.{GrammarFault}
+use Rattle.format.specs.Limits.{text-limit}
+use Rattle.grammar.specs.Reading.{Answers, room-in}
+use Rattle.policy.specs.Reading.{Rejected, Scanned}
+
+pub scanned : (text was is : List ℕ) (r : Result ℕ GrammarFault) → length text ≤ text-limit → Answers text (room-in (length was)) r was is → Scanned text r was is
+scanned text was is (Ok n) h a = (h, a)
+scanned text was is (Err e) h a = Rejected.refused h a
