@@ -3,3 +3,4 @@ pub mod Checking
 pub mod Flags
 pub mod Checked
 pub mod Reading
+pub mod Texts

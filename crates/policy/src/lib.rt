@@ -2,8 +2,10 @@
 mod checked;
 mod checking;
 mod reader;
+mod texts;
 mod waiting;
 
 pub use checked::CheckedPolicy;
 pub use checking::check;
 pub use reader::read;
+pub use texts::read_policy;
