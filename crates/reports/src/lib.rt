@@ -1,17 +1,23 @@
 // The record of a policy as a technician reads it.
 ghost use mathlib.Core.Path.{_≡_};
 ghost use mathlib.Core.List.{_++_};
+ghost use Prim.Native.Nat.{_≤_};
 ghost use Rattle.std.specs.Joined.{joined};
 ghost use Rattle.std.specs.Of.Vec.{vec-items};
 ghost use Rattle.std.specs.Vec.{made};
 ghost use Rattle.std.specs.Written.{decimal};
 ghost use Rattle.format.specs.Fields.{field-name};
-ghost use Rattle.reports.specs.Lines.{kind-name, details, word-line};
+ghost use Rattle.reports.specs.Lines.{kind-name, details, word-line, accepted-record};
+ghost use Rattle.reports.specs.Reports.{Tells};
+use faults::refused_line;
+use format::WORDS_LIMIT;
 use format::Word;
 use format::field_name;
 use numerals::push_decimal;
 use numerals::push_hex;
+use policy::read_policy;
 use std::alloc::AllocError;
+use std::alloc::Global;
 
 fn kind_name(kind: u32) -> &'static [u8]
     ensures { λ r. ⌜ now r ≡ kind-name kind ⌝ }
@@ -71,4 +77,31 @@ fn push_words(out: &mut Vec<u8>, words: &[u32]) -> Result<(), AllocError>
         push_word(out, *word)?;
     }
     Ok(())
+}
+
+fn accepted(heap: Global, text: &[u8], words: &[u32]) -> Result<Vec<u8>, AllocError>
+    ensures { λ r. ⌜ made r (λ v. vec-items v ≡ accepted-record (now (text .entry)) (now (words .entry))) ⌝ }
+{
+    let mut record = Vec::from_slice(heap, b"read ")?;
+    push_decimal(&mut record, text.len() as u64)?;
+    record.extend_from_slice(b" bytes\n")?;
+    push_words(&mut record, words)?;
+    record.extend_from_slice(b"accepted ")?;
+    push_decimal(&mut record, words.len() as u64)?;
+    record.extend_from_slice(b" words\n")?;
+    Ok(record)
+}
+
+// The record of a policy text: what it says word by word, or just why it is refused.
+pub fn report(heap: Global, text: &[u8]) -> Result<Vec<u8>, AllocError>
+    ensures { λ r. ⌜ made r (λ v. Tells (now (text .entry)) (vec-items v)) ⌝ }
+{
+    let mut memory = [0; WORDS_LIMIT];
+    match read_policy(text, &mut memory) {
+        Ok(policy) => accepted(heap, text, policy.words()),
+        Err(fault) => {
+            let line = refused_line(heap, fault.shown())?;
+            Ok(line)
+        }
+    }
 }
