@@ -200,9 +200,8 @@ same-trees e = cc
 pub one-result : {text : List ℕ} {room n m : ℕ} {was is also : List ℕ} → Written text room n was is → Written text room m was also → (n ≡ m) × (is ≡ also)
 one-result {n} {m} {was} {is} {also} w v =
     let p = ap postfix (same-trees (one-reading (result-of w) (result-of v))) in
-    let e : n ≡ m = w .count ∙ ap length p ∙ sym (v .count) in
-    (
+    let e : n ≡ m = w .count ∙ ap length p ∙ sym (v .count) in (
       e,
       sym (take-append-drop n is) ∙ ap (λ x. x ++ drop n is) (w .words ∙ p ∙ sym (v .words) ∙ ap (λ k. take k also) (sym e))
-      ∙ ap (λ x. take n also ++ x) (w .past ∙ ap (λ k. drop k was) e ∙ sym (v .past) ∙ ap (λ k. drop k also) (sym e)) ∙ take-append-drop n also,
+          ∙ ap (λ x. take n also ++ x) (w .past ∙ ap (λ k. drop k was) e ∙ sym (v .past) ∙ ap (λ k. drop k also) (sym e)) ∙ take-append-drop n also,
     )
