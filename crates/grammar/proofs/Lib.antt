@@ -8,3 +8,4 @@ pub mod Ready
 pub mod Pushing
 pub mod Finishing
 pub mod Whole
+pub mod Determined

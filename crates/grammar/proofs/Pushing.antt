@@ -95,7 +95,7 @@ one-deeper (Mark Assign) os h = let z : _≡_ {A = ℕ} 0 1 = cc in absurd (omeg
 unfinished-push : (ss : List Symbol) (s : Symbol) → unfinished (ss ++ s ∷ []) ≡ open-after (unfinished ss) s
 unfinished-push ss s = folded-push open-after [] ss s
 
-needed-push : (ss : List Symbol) (s : Symbol) → needed (ss ++ s ∷ []) ≡ needed ss + needs s
+pub needed-push : (ss : List Symbol) (s : Symbol) → needed (ss ++ s ∷ []) ≡ needed ss + needs s
 needed-push ss s = sumBy-push needs ss s
 
 module _ {room : ℕ} {was : List ℕ} {ss : List Symbol} {m : Machine} {is : List ℕ} (h : Stands room was ss m is) (s : Symbol) where
@@ -159,10 +159,12 @@ module _ {room : ℕ} {was : List ℕ} {ss : List Symbol} {m : Machine} {is : Li
       written-is = omega (arith, h .wrote .count, ap length (words-grow a g ready-now), length-append (words-of g) (extra a g))
 
       pub possible : Possible a (record { mode = m .mode; level = m .level; stack = m .stack; depth = m .depth; needed = count; written = m .written }) is
-      possible =
-          (g, record { mode = h .outline .mode; level = h .outline .level; stacked = h .outline .stacked; tall = h .outline .tall; within = h .outline .within },
-            ready-now,
-            omega (arith, written-is, reads-needs next-reads, needed-push ss s, counted, h .count, fits, h .enough))
+      possible = (
+        g,
+        record { mode = h .outline .mode; level = h .outline .level; stacked = h .outline .stacked; tall = h .outline .tall; within = h .outline .within },
+        ready-now,
+        omega (arith, written-is, reads-needs next-reads, needed-push ss s, counted, h .count, fits, h .enough),
+      )
 
       pub stands : (next : Machine) (then : List ℕ) → Performs a (record { mode = m .mode; level = m .level; stack = m .stack; depth = m .depth; needed = count; written = m .written }) is next then → Stands room was (ss ++ s ∷ []) next then
       stands next then p =

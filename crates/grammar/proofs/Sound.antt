@@ -188,7 +188,7 @@ runs-goes (t ∷ ts) ss g r = go (step g t) (step-goes r t) (runs-goes ts (ss ++
 pub run-reads : (ss : List Symbol) (g : Parse) → runs begin ss ≡ Some g → Reads ss g
 run-reads ss g e = subst (λ o. Goes ss o) e (runs-goes ss [] begin (at-operand Before.nothing))
 
-shorter : (ss ts : List Symbol) → Viable (ss ++ ts) → Viable ss
+pub shorter : (ss ts : List Symbol) → Viable (ss ++ ts) → Viable ss
 shorter ss ts v = (ts ++ v .0, v .1, subst (λ x. Sum x (v .1)) (append-assoc ss ts (v .0)) (v .2))
 
 viable-at : {ss ts : List Symbol} → ss ≡ ts → Viable ts → Viable ss

@@ -6,3 +6,4 @@ pub mod Verdicts
 pub mod Determinism
 pub mod Policies
 pub mod Lengths
+pub mod OneAnswer

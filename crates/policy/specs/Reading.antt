@@ -24,3 +24,7 @@ Read text (Err e) was is = Rejected text (room-in (length was)) e × (is ≡ rep
 abbrev pub Scanned : List ℕ → Result ℕ GrammarFault → List ℕ → List ℕ → Type 0
 Scanned text (Ok n) was is = (length text ≤ text-limit) × Written text (room-in (length was)) n was is
 Scanned text (Err e) was is = Rejected text (room-in (length was)) e
+
+-- no other answer and no other memory would do
+abbrev pub Only-answer : List ℕ → Result ℕ GrammarFault → List ℕ → List ℕ → Type 0
+Only-answer text r was is = (q : Result ℕ GrammarFault) (also : List ℕ) → Read text q was also → (q ≡ r) × (also ≡ is)

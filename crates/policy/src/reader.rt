@@ -1,5 +1,5 @@
 // Policy text to policy words.
-ghost use Rattle.policy.specs.Reading.{Read, Scanned};
+ghost use Rattle.policy.specs.Reading.{Read, Only-answer, Scanned};
 use faults::GrammarFault;
 use format::TEXT_LIMIT;
 use grammar::parse;
@@ -13,8 +13,8 @@ fn scan(text: &[u8], out: &mut [u32]) -> Result<usize, GrammarFault>
     parse(text, out)
 }
 
-// The number of words of a policy text's policy, which are written into `out`; or why it has none.
-pub fn read(text: &[u8], out: &mut [u32]) -> Result<usize, GrammarFault>
+// Leaves no half-written policy behind.
+fn scan_or_clear(text: &[u8], out: &mut [u32]) -> Result<usize, GrammarFault>
     ensures { λ r. ⌜ Read (now (text .entry)) r (now (out .entry)) (now (out .exit)) ⌝ }
 {
     let answer = scan(text, out);
@@ -22,4 +22,12 @@ pub fn read(text: &[u8], out: &mut [u32]) -> Result<usize, GrammarFault>
         out.fill(0);
     }
     answer
+}
+
+// The number of words of a policy text's policy, which are written into `out`; or why it has none.
+pub fn read(text: &[u8], out: &mut [u32]) -> Result<usize, GrammarFault>
+    ensures answer { λ r. ⌜ Read (now (text .entry)) r (now (out .entry)) (now (out .exit)) ⌝ }
+    ensures only { λ r. ⌜ Only-answer (now (text .entry)) r (now (out .entry)) (now (out .exit)) ⌝ }
+{
+    scan_or_clear(text, out)
 }
