@@ -99,7 +99,7 @@ fn at_price(symbol: Symbol) -> Option<Action>
 }
 
 // What to do at a symbol, or none where no sentence goes on with it; `bracketed` says whether a bracket is open.
-pub fn decide(mode: Mode, bracketed: bool, symbol: Symbol) -> Option<Action>
+pub(crate) fn decide(mode: Mode, bracketed: bool, symbol: Symbol) -> Option<Action>
     ensures { λ r. ⌜ Decides-act (decision mode bracketed symbol) r ⌝ }
 {
     match mode {

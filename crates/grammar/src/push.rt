@@ -64,7 +64,7 @@ fn reserve(
     Ok(count + words)
 }
 
-pub fn push(
+pub(crate) fn push(
     m: &mut Machine,
     out: &mut [u32],
     room: usize,

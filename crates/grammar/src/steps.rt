@@ -89,7 +89,7 @@ fn close(m: &mut Machine, out: &mut [u32])
     complete(m, out);
 }
 
-pub fn perform(m: &mut Machine, out: &mut [u32], action: Action)
+pub(crate) fn perform(m: &mut Machine, out: &mut [u32], action: Action)
     requires { ⌜ ((a : Act) × Decides-act (Some a) (Some action) × Possible a (now m) (now out)) ⌝ }
     ensures { λ _. ⌜ ((a : Act) → Decides-act (Some a) (Some action) → Performs a (now (m .entry)) (now (out .entry)) (now (m .exit)) (now (out .exit))) ⌝ }
 {

@@ -11,7 +11,7 @@ use super::machine::Level;
 use format::PolicyWord;
 
 // Writes a word, and says where the next one goes.
-pub fn emit(out: &mut [u32], at: usize, word: PolicyWord) -> usize
+pub(crate) fn emit(out: &mut [u32], at: usize, word: PolicyWord) -> usize
     requires { ⌜ at < length (now out) ⌝ }
     ensures { λ r. ⌜ Appended (now (out .entry)) at (now (out .exit)) r (bits-of word ∷ []) ⌝ }
 {
@@ -20,7 +20,7 @@ pub fn emit(out: &mut [u32], at: usize, word: PolicyWord) -> usize
 }
 
 // Ends a chain: its `;` now has both operands.
-pub fn end_chain(out: &mut [u32], at: usize, waits: bool) -> usize
+pub(crate) fn end_chain(out: &mut [u32], at: usize, waits: bool) -> usize
     requires { ⌜ at + length (chain-words waits) ≤ length (now out) ⌝ }
     ensures { λ r. ⌜ Appended (now (out .entry)) at (now (out .exit)) r (chain-words waits) ⌝ }
 {
@@ -32,7 +32,7 @@ pub fn end_chain(out: &mut [u32], at: usize, waits: bool) -> usize
 }
 
 // Ends a sum, its last chain first.
-pub fn end_sum(out: &mut [u32], at: usize, level: Level) -> usize
+pub(crate) fn end_sum(out: &mut [u32], at: usize, level: Level) -> usize
     requires { ⌜ at + length (level-words level) ≤ length (now out) ⌝ }
     ensures { λ r. ⌜ Appended (now (out .entry)) at (now (out .exit)) r (level-words level) ⌝ }
 {
@@ -54,7 +54,7 @@ fn is_negation(frame: Frame) -> bool
 }
 
 // Finishes each `!` on top of the stack: the depth that is left, and where the next word goes.
-pub fn settle(stack: &[Frame], depth: usize, out: &mut [u32], at: usize) -> (usize, usize)
+pub(crate) fn settle(stack: &[Frame], depth: usize, out: &mut [u32], at: usize) -> (usize, usize)
     requires { ⌜ depth ≤ length (now stack) ⌝ }
     requires { ⌜ ((fs : List Opened) × Stacked fs (now stack) depth × (at + length (not-words fs) ≤ length (now out))) ⌝ }
     ensures { λ r. ⌜ ((fs : List Opened) → Stacked fs (now (stack .entry)) depth → Stacked (rest fs) (now (stack .entry)) (r .0) × Appended (now (out .entry)) at (now (out .exit)) (r .1) (not-words fs)) ⌝ }

@@ -11,4 +11,4 @@ part-check-end c =
     (c .in-Continue-count .count)
     (c .args .memory .now)
     (c .read .last .out)
-    (c .in-Continue-count .ensures tt .1)
+    (c .in-Continue-count .ensures tt .answer .1)
