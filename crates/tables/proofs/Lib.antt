@@ -5,3 +5,5 @@ pub mod Scans
 pub mod Rows
 pub mod Order
 pub mod Listed
+pub mod Puts
+pub mod Answers

@@ -3,7 +3,7 @@ use mathlib.Core.Path.{_≡_, refl, sym, ap, subst, _∙_}
 use mathlib.Core.Bool.{Bool, true, false}
 use mathlib.Core.List.{List, [], _∷_, _++_, map, append-assoc}
 use mathlib.Core.Logic.{_⊎_, inl, inr}
-use Prim.Native.Nat.{ℕ, _+_, _*_, _<_, _≤_}
+use Prim.Native.Nat.{ℕ, suc, _+_, _*_, _<_, _≤_}
 use native.Mathlib.Omega.{arith}
 use lib.ListN.{length, take, drop, length-append}
 use Rattle.std.specs.shelf.Lists.{joined}
@@ -12,7 +12,7 @@ use Rattle.std.specs.declared.option.Option.the-variants.{Some, None}
 use Rattle.std.proofs.shelf.Lists.{take-at, drop-at, drop-drop, append-nil, map-append, length-map}
 use Rattle.std.proofs.shelf.Tests.{cases-bool, true≢false}
 use Rattle.format.specs.Words.{value-of}
-use Rattle.frames.specs.Frames.{before}
+use Rattle.frames.specs.Frames.{before, words-from, frame-words}
 use Rattle.weights.specs.Weights.{Ops}
 use Rattle.tables.specs.Emits.{Sent, sent-words, In, Ascending}
 use Rattle.tables.specs.Scans.{weight-in, least, above, RowSent, RowFull}
@@ -202,3 +202,10 @@ listed-all o xs last was n is l e =
       count = l .count;
       written = l .written
     }
+
+length-words : (f : ℕ) (s : List ℕ) → length (words-from f s) ≡ length s
+length-words f [] = refl
+length-words f (n ∷ s) = ap suc (length-words (f + 1) s)
+
+pub length-frame-words : (s : List ℕ) → length (frame-words s) ≡ length s
+length-frame-words s = length-words 0 s

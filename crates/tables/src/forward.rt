@@ -7,12 +7,11 @@ ghost use lib.ListN.{length, take, drop, replicate};
 ghost use Rattle.std.specs.Results.{Cases};
 ghost use Rattle.std.specs.declared.option.Option.the-variants.{None};
 ghost use Rattle.format.specs.Words.{value-of};
-ghost use Rattle.frames.specs.Frames.{FrameValues, frame-words};
 ghost use Rattle.tables.specs.Rows.{Row, LegalRows, table-words};
 ghost use Rattle.faults.specs.declared.layers.FrameFault.the-variants.{NoRoom};
 ghost use Rattle.tables.specs.Emits.{sent-words};
 ghost use Rattle.tables.specs.Scans.{RowSent, RowFull, applied as applied-to, sends, weight-in, least, above, below, values-of};
-ghost use Rattle.tables.specs.Forwards.{Written, Refused};
+ghost use Rattle.tables.specs.Forwards.{Answered, Refused};
 
 use super::SET;
 use super::WEIGHT;
@@ -123,4 +122,30 @@ fn send_row<K: WeightKind>(row: &[u32], frame: Frame, out: &mut [u32]) -> Result
         last = Some(next);
     }
     Ok(count)
+}
+
+impl<'a, K: WeightKind> CheckedTable<'a, K> {
+    // Writes the answer to a frame, as far as there is room.
+    fn answer(&self, frame: &[u32], out: &mut [u32]) -> Result<usize, FrameFault>
+        ensures { λ r. ⌜ ((rows : List Row) → LegalRows (K·WeightKind .ops) rows → now (now (self .entry) .words) ≡ table-words rows → Cases r (λ n. Answered (K·WeightKind .ops) rows (now (frame .entry)) (now (out .entry)) n (now (out .exit))) (λ e. Refused (K·WeightKind .ops) rows (now (frame .entry)) (length (now (out .entry))) e)) ⌝ }
+    {
+        let frame = Frame::read(frame)?;
+        match self.lookup(&frame) {
+            Some(row) => send_row::<K>(row, frame, out),
+            None => Ok(0),
+        }
+    }
+
+    // Forwards a frame: each emitted frame once, its weights joined, ascending by values, as a weight word and the frame's words.
+    // The answer is the number of words written; a refusal leaves zeros.
+    pub fn forward(&self, frame: &[u32], out: &mut [u32]) -> Result<usize, FrameFault>
+        ensures exact { λ r. ⌜ ((rows : List Row) → LegalRows (K·WeightKind .ops) rows → now (now (self .entry) .words) ≡ table-words rows → Cases r (λ n. Answered (K·WeightKind .ops) rows (now (frame .entry)) (now (out .entry)) n (now (out .exit))) (λ e. Refused (K·WeightKind .ops) rows (now (frame .entry)) (length (now (out .entry))) e)) ⌝ }
+        ensures zeros { λ r. ⌜ Cases r (λ _. Unit {0}) (λ _. now (out .exit) ≡ replicate (length (now (out .entry))) 0) ⌝ }
+    {
+        let answer = self.answer(frame, out);
+        if answer.is_err() {
+            out.fill(0);
+        }
+        answer
+    }
 }
