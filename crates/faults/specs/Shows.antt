@@ -16,7 +16,7 @@ use Rattle.faults.specs.declared.layers.TableFault.the-variants.{Illegal}
 use Rattle.faults.specs.declared.layers.FrameFault.{FrameFault}
 use Rattle.faults.specs.declared.layers.FrameFault.the-variants as frame
 
-abbrev shown : ℕ → ℕ → ℕ → Shown
+abbrev pub shown : ℕ → ℕ → ℕ → Shown
 shown n l p = record { number = n; layer = l; place = p }
 
 abbrev pub token-shown : TokenFault → Shown
