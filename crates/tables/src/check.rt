@@ -29,6 +29,12 @@ pub struct CheckedTable<'a, K> {
     pub(crate) kind: [K; 0],
 }
 
+impl<K> Drop for CheckedTable<'_, K> {
+    fn drop(self) {
+        let CheckedTable { words: _, kind: [] } = self;
+    }
+}
+
 // How far a check has come: its state, and how many heads it read.
 #[derive(Clone, Copy)]
 struct Checker {

@@ -4,6 +4,7 @@ ghost use mathlib.Core.Bool.{_&&_};
 ghost use mathlib.Core.List.{List, _++_};
 ghost use Prim.Native.Nat.{ℕ, _+_, _≤_};
 ghost use lib.ListN.{length, take, drop, replicate};
+ghost use Rattle.std.specs.Orderings.{Decides};
 ghost use Rattle.std.specs.Results.{Cases};
 ghost use Rattle.std.specs.declared.option.Option.the-variants.{None};
 ghost use Rattle.format.specs.Words.{value-of};
@@ -46,6 +47,13 @@ fn applied(row: &[u32], from: usize, frame: Frame) -> Frame
     sent
 }
 
+// Whether two frames have the same values.
+fn same(a: &Frame, b: &Frame) -> bool
+    ensures { λ r. ⌜ Decides r (now (a .entry) .values ≡ now (b .entry) .values) ⌝ }
+{
+    a.values == b.values
+}
+
 // The joined weight at which a row sends a frame on as another.
 fn weight_to<K: WeightKind>(row: &[u32], frame: Frame, target: Frame) -> u32
     ensures { λ r. ⌜ r ≡ weight-in (K·WeightKind .ops) (target .values) (K·WeightKind .ops .zero) (sends (now (row .entry)) (frame .values)) ⌝ }
@@ -55,7 +63,7 @@ fn weight_to<K: WeightKind>(row: &[u32], frame: Frame, target: Frame) -> u32
         let word = Word::split(row[place]);
         if word.kind == WEIGHT {
             let sent = applied(row, place + 1, frame);
-            if sent.same(&target) {
+            if same(&sent, &target) {
                 weight = K::join(weight, word.value);
             }
         }
