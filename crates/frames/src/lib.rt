@@ -3,7 +3,6 @@ ghost use mathlib.Core.Path.{_≡_};
 ghost use mathlib.Core.List.{List};
 ghost use Prim.Native.Nat.{ℕ, _<_};
 ghost use lib.ListN.{length, getD, set};
-ghost use Rattle.std.specs.Orderings.{Decides};
 ghost use Rattle.std.specs.Results.{Cases};
 ghost use Rattle.format.specs.Fields.{fields, LegalValue};
 ghost use Rattle.format.specs.Words.{word, value-of};
@@ -19,7 +18,7 @@ use format::KIND_UNIT;
 use format::Setting;
 use format::Word;
 pub use frame::Frame;
-use frame::WIDTH;
+pub use frame::WIDTH;
 
 // The kind of a frame's words.
 const FRAME_KIND: u32 = 9;
@@ -39,6 +38,15 @@ fn field_value(place: usize, bits: u32) -> Result<u32, FrameFault>
     }
 }
 
+// The values with one replaced.
+fn replaced(values: [u32; WIDTH], setting: Setting) -> [u32; WIDTH]
+    ensures { λ r. ⌜ r ≡ set values (setting .field) (setting .value) ⌝ }
+{
+    let mut values = values;
+    values[setting.field as usize] = setting.value;
+    values
+}
+
 impl Frame {
     // The frame of these words.
     pub fn read(words: &[u32]) -> Result<Frame, FrameFault>
@@ -56,8 +64,8 @@ impl Frame {
         ensures { λ r. ⌜ Cases r (λ s. words ≡ frame-words (s .values)) (λ e. NoFrame e words) ⌝ }
     {
         let mut values = [0; WIDTH];
-        for place in 0..WIDTH {
-            values[place] = field_value(place, words[place])?;
+        for index in 0..WIDTH {
+            values[index] = field_value(index, words[index])?;
         }
         Ok(Frame { values })
     }
@@ -77,9 +85,9 @@ impl Frame {
     pub fn with(self, setting: Setting) -> Frame
         ensures { λ r. ⌜ r .values ≡ set (self .values) (setting .field) (setting .value) ⌝ }
     {
-        let mut values = self.values;
-        values[setting.field as usize] = setting.value;
-        Frame { values }
+        Frame {
+            values: replaced(self.values, setting),
+        }
     }
 
     // Whether this frame comes before another, by field 0 first.
@@ -94,21 +102,14 @@ impl Frame {
         false
     }
 
-    // Whether two frames have the same values.
-    pub fn same(&self, other: &Frame) -> bool
-        ensures { λ r. ⌜ Decides r (now (self .entry) .values ≡ now (other .entry) .values) ⌝ }
-    {
-        self.values == other.values
-    }
-
     // The frame's words.
     pub fn words(&self) -> [u32; WIDTH]
         ensures { λ r. ⌜ r ≡ frame-words (now (self .entry) .values) ⌝ }
     {
         let mut words = self.values;
         let mut head = FRAME_KIND * KIND_UNIT;
-        for field in 0..WIDTH {
-            words[field] = head + self.values[field];
+        for place in 0..WIDTH {
+            words[place] = head + self.values[place];
             head += FIELD_UNIT;
         }
         words

@@ -10,7 +10,7 @@ use Rattle.faults.specs.declared.layers.FrameFault.the-variants.{Length, BadWor
 use Rattle.frames.specs.Frames.{FrameValues, NoFrame, frame-words}
 use Rattle.weights.specs.Weights.{Ops}
 use Rattle.tables.specs.Rows.{Row, row-words}
-use Rattle.tables.specs.Emits.{Sent, sent-words, emits, holds, Answer, In, Ascending}
+use Rattle.tables.specs.Emits.{Sent, sent-length, sent-words, emits, holds, Answer, In, Ascending}
 
 -- the first row whose matches all hold of frame s, as the part of the table's words where it stands
 pub record Decides (rows : List Row) (s ws found : List ℕ) : Type 0 where
@@ -32,12 +32,16 @@ pub record Written (o : Ops) (rows : List Row) (s was : List ℕ) (n : ℕ) (is 
   pub front : take n is ≡ joined sent-words answer
   pub past : drop n is ≡ drop n was
 
+-- the words are those of a frame, and its answer was written
+abbrev pub Answered : Ops → List Row → List ℕ → List ℕ → ℕ → List ℕ → Type 0
+Answered o rows ws was n is = (s : List ℕ) × FrameValues s × (ws ≡ frame-words s) × Written o rows s was n is
+
 -- more frames are emitted than so many words hold
 pub record Overfull (o : Ops) (rows : List Row) (s : List ℕ) (room : ℕ) : Type 0 where
   pub frames : List (List ℕ)
   pub ascending : Ascending frames
   pub emitted : (t : List ℕ) → In t frames → emits o rows s t ≡ o .zero → ⊥
-  pub many : room < 9 * length frames
+  pub many : room < sent-length * length frames
 
 -- why a frame's words are not forwarded: they are no frame, or else the answer does not fit
 abbrev pub Refused : Ops → List Row → List ℕ → ℕ → FrameFault → Type 0

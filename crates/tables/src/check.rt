@@ -18,8 +18,8 @@ use super::WEIGHT;
 use super::state::State;
 use faults::TableFault;
 use format::FIELDS;
-use format::FIELD_UNIT;
 use format::Setting;
+use format::VALUE_END;
 use format::Word;
 use weights::WeightKind;
 
@@ -27,6 +27,12 @@ use weights::WeightKind;
 pub struct CheckedTable<'a, K> {
     pub(crate) words: &'a [u32],
     pub(crate) kind: [K; 0],
+}
+
+impl<K> Drop for CheckedTable<'_, K> {
+    fn drop(self) {
+        let CheckedTable { words: _, kind: [] } = self;
+    }
 }
 
 // How far a check has come: its state, and how many heads it read.
@@ -70,7 +76,7 @@ impl Checker {
         requires { ⌜ field < 16 ⌝ ∗ ⌜ value < value-end ⌝ ∗ ⌜ now self .rows < value-end ⌝ }
         ensures { λ r. ⌜ ((o : Ops) → Takes o (now (self .entry) .rows) Head (word 10 field value) r (now (self .exit) .rows) (now (self .exit) .state)) ⌝ }
     {
-        if self.rows + 1 >= FIELD_UNIT || field > FIELDS {
+        if self.rows + 1 >= VALUE_END || field > FIELDS {
             return false;
         }
         self.rows += 1;

@@ -6,12 +6,12 @@ use Rattle.std.proofs.shelf.Lists.{length-set}
 use Rattle.frames.proofs.Words.{right-more, words-from-places}
 use Rattle.frames.proofs.frame.Frame.of.Needs as need
 
-pub loop-place-again : need.loop-place-again
-loop-place-again c =
-    let l : c .loop-place .place < length (c .loop-place .values) = omega arith in
-    ( length-set _ _ _ ∙ c .loop-place .inv .0
-    , right-more (c .args .words) (c .loop-place .values) (c .loop-place .place) _ l (c .loop-place .inv .1) (c .in-Continue-values .ensures tt)
+pub loop-index-again : need.loop-index-again
+loop-index-again c =
+    let l : c .loop-index .index < length (c .loop-index .values) = omega arith in
+    ( length-set _ _ _ ∙ c .loop-index .inv .0
+    , right-more (c .args .words) (c .loop-index .values) (c .loop-index .index) _ l (c .loop-index .inv .1) (c .in-Continue-values .ensures tt)
     )
 
 pub returns : need.returns
-returns c = words-from-places (c .args .words) (c .loop-place .values) (omega arith) λ k l. c .loop-place .inv .1 k (omega arith) .0
+returns c = words-from-places (c .args .words) (c .loop-index .values) (omega arith) λ k l. c .loop-index .inv .1 k (omega arith) .0

@@ -1,10 +1,17 @@
-use Prim.Native.Nat.{_<_}
+use mathlib.Core.Path.{sym, subst}
+use mathlib.Core.List.{List}
+use Prim.Native.Nat.{ℕ, _<_}
 use native.Mathlib.Omega.{arith}
-use lib.ListN.{length}
+use lib.ListN.{length, getD}
+use Rattle.format.specs.Fields.{fields, LegalValue}
 use Rattle.frames.proofs.Words.{set-legal}
 use Rattle.frames.proofs.frame.Frame.with.Needs as need
 
 pub ghost-result : need.ghost-result
 ghost-result c =
-    let l : c .args .setting .field < length (c .args .self .values) = omega (arith, c .args .setting .exists) in
-    (set-legal (c .args .self .values) (c .args .setting .field) (c .args .setting .value) l (c .args .setting .legal) (c .args .self .legal), tt)
+    let s = c .args .setting in
+    let l : s .field < length (c .args .self .values) = omega (arith, s .exists) in
+    ( subst (λ (xs : List ℕ). (f : ℕ) → f < fields → LegalValue f (getD xs f 0)) (sym (c .replaced .ensures))
+      (set-legal (c .args .self .values) (s .field) (s .value) l (s .legal) (c .args .self .legal))
+    , tt
+    )
