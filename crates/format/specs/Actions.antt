@@ -6,7 +6,7 @@ use mathlib.Core.Bool.{cond}
 use Prim.Native.Nat.{ℕ, _<_}
 use lib.Dec.{eqb}
 use lib.Lanes.{zip2}
-use lib.ListN.{length, getD, set, replicate}
+use lib.ListN.{getD, set, replicate}
 use Rattle.std.specs.declared.option.Option.{Option}
 use Rattle.std.specs.declared.option.Option.the-variants.{Some, None}
 use Rattle.format.specs.Fields.{fields, LegalValue}
@@ -55,11 +55,6 @@ ActionBelow [] bs = ⊥
 ActionBelow (a ∷ as′) [] = ⊥
 ActionBelow (a ∷ as′) (b ∷ bs) = SetBelow a b ⊎ ((a ≡ b) × ActionBelow as′ bs)
 
--- a set of field f is to a legal value of it
-abbrev pub LegalSet : ℕ → Option ℕ → Type 0
-LegalSet f None = Unit {0}
-LegalSet f (Some n) = LegalValue f n
-
 -- every set is to a legal value of its field
 abbrev pub LegalSets : List (Option ℕ) → Type 0
-LegalSets a = (f : ℕ) → f < length a → LegalSet f (getD a f None)
+LegalSets a = (f n : ℕ) → getD a f None ≡ Some n → LegalValue f n

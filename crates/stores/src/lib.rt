@@ -1,0 +1,12 @@
+// Records under numbers: equal records get one number, and a refused construction leaves no trace.
+mod records;
+mod same;
+
+pub use records::Action;
+pub use records::Cell;
+pub use records::Diagram;
+pub use records::Node;
+pub use same::ActionRecord;
+pub use same::CellRecord;
+pub use same::NodeRecord;
+pub use same::Record;
