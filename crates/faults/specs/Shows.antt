@@ -10,6 +10,8 @@ use Rattle.faults.specs.declared.layers.CheckFault.{CheckFault}
 use Rattle.faults.specs.declared.layers.CheckFault.the-variants.{LongPolicy, BadWord, BadOperands, NoPredicate, TooMany}
 use Rattle.faults.specs.declared.layers.CompileFault.{CompileFault}
 use Rattle.faults.specs.declared.layers.CompileFault.the-variants.{Text, Check}
+use Rattle.faults.specs.declared.layers.StoreFault.{StoreFault}
+use Rattle.faults.specs.declared.layers.StoreFault.the-variants.{Full, NotHeld, BadMemory}
 
 abbrev shown : ℕ → ℕ → ℕ → Shown
 shown n l p = record { number = n; layer = l; place = p }
@@ -35,3 +37,8 @@ check-shown (TooMany p) = shown 4 3 p
 abbrev pub compile-shown : CompileFault → Shown
 compile-shown (Text f) = grammar-shown f
 compile-shown (Check f) = check-shown f
+
+abbrev pub store-shown : StoreFault → Shown
+store-shown Full = shown 9 4 0
+store-shown (NotHeld p) = shown 10 4 p
+store-shown (BadMemory p) = shown 14 4 p

@@ -1,6 +1,6 @@
 // Every refusal by its layer, and what a person is shown of it.
 ghost use mathlib.Core.Path.{_≡_};
-ghost use Rattle.faults.specs.Shows.{token-shown, grammar-shown, check-shown, compile-shown};
+ghost use Rattle.faults.specs.Shows.{token-shown, grammar-shown, check-shown, compile-shown, store-shown};
 
 mod layers;
 
@@ -12,6 +12,7 @@ pub use layers::CompileFromCheck;
 pub use layers::CompileFromGrammar;
 pub use layers::GrammarFault;
 pub use layers::GrammarFromToken;
+pub use layers::StoreFault;
 pub use layers::TokenFault;
 
 // What a person is shown of a refusal: its number, the layer that refused, and the place.
@@ -115,6 +116,31 @@ impl CompileFault {
         match self {
             CompileFault::Text(fault) => fault.shown(),
             CompileFault::Check(fault) => fault.shown(),
+        }
+    }
+}
+
+impl StoreFault {
+    pub fn shown(self) -> Shown
+        ensures { λ r. ⌜ r ≡ store-shown self ⌝ }
+    {
+        let layer = 4;
+        match self {
+            StoreFault::Full => Shown {
+                number: 9,
+                layer,
+                place: 0,
+            },
+            StoreFault::NotHeld(place) => Shown {
+                number: 10,
+                layer,
+                place,
+            },
+            StoreFault::BadMemory(place) => Shown {
+                number: 14,
+                layer,
+                place,
+            },
         }
     }
 }

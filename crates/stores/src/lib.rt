@@ -1,6 +1,7 @@
 // Records under numbers: equal records get one number, and a refused construction leaves no trace.
 mod records;
 mod same;
+mod store;
 
 pub use records::Action;
 pub use records::Cell;
@@ -10,3 +11,4 @@ pub use same::ActionRecord;
 pub use same::CellRecord;
 pub use same::NodeRecord;
 pub use same::Record;
+pub use store::Store;
