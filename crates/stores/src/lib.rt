@@ -1,8 +1,13 @@
 // Records under numbers: equal records get one number, and a refused construction leaves no trace.
+mod actions;
+mod counts;
 mod records;
 mod same;
 mod store;
+mod words;
 
+pub use counts::Counts;
+pub use counts::Guard;
 pub use records::Action;
 pub use records::Cell;
 pub use records::Diagram;

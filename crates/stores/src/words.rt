@@ -1,0 +1,44 @@
+// Diagrams by their 32-bit words.
+ghost use mathlib.Core.Path.{_≡_};
+ghost use Prim.Native.Nat.{ℕ};
+ghost use lib.ListN.{length};
+ghost use Rattle.std.specs.Options.{Cases};
+ghost use Rattle.std.specs.Orderings.{Decides};
+ghost use Rattle.stores.specs.Words.{word-of, Held};
+
+use super::counts::Counts;
+use super::records::Diagram;
+use format::Amount;
+use format::Word;
+
+// The kind of a node's word; a leaf's is 0.
+const BRANCH: u32 = 1;
+
+const KIND_UNIT: u32 = 0x1000_0000;
+
+impl Diagram {
+    // The diagram with this word, or none where no diagram has it.
+    pub fn from_word(bits: u32) -> Option<Diagram>
+        ensures { λ r. ⌜ Cases r ((d : Diagram) → word-of d ≡ bits → ⊥) (λ d. word-of d ≡ bits) ⌝ }
+    {
+        let word = Word::split(bits);
+        if word.field != 0 {
+            return None;
+        }
+        let number = Amount::new(word.value)?;
+        match word.kind {
+            0 => Some(Diagram::Leaf(number)),
+            BRANCH => Some(Diagram::Branch(number)),
+            _ => None,
+        }
+    }
+
+    pub fn word(self) -> u32
+        ensures { λ r. ⌜ r ≡ word-of self ⌝ }
+    {
+        match self {
+            Diagram::Leaf(first) => first.number,
+            Diagram::Branch(node) => KIND_UNIT + node.number,
+        }
+    }
+}
