@@ -25,9 +25,11 @@ pub const WAITING_LIMIT: usize = 256;
 // A cost number is at most this.
 pub const COST_LIMIT: u32 = 65_535;
 
-const KIND_UNIT: u32 = 0x1000_0000;
+// A word of kind 1, field 0 and value 0.
+pub const KIND_UNIT: u32 = 0x1000_0000;
 
-const FIELD_UNIT: u32 = 0x100_0000;
+// A word of kind 0, field 1 and value 0.
+pub const FIELD_UNIT: u32 = 0x100_0000;
 
 // A word by its parts.
 #[derive(Clone, Copy)]

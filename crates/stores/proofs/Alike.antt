@@ -18,7 +18,9 @@ use Rattle.format.specs.declared.settings.Setting.{Setting}
 use Rattle.stores.specs.declared.records.Action.{Action}
 use Rattle.stores.specs.declared.records.Cell.{Cell}
 use Rattle.stores.specs.declared.records.Diagram.{Diagram}
+use Rattle.stores.specs.declared.records.Diagram.the-variants.{Leaf, Branch}
 use Rattle.stores.specs.declared.records.Node.{Node}
+use Rattle.stores.specs.Words.{word-of}
 
 pub amounts-alike : (a b : Amount) → a .number ≡ b .number → a ≡ b
 amounts-alike a b e =
@@ -51,3 +53,9 @@ cells-alike a b e h k = λ i. record { action = e i; weight = h i; rest = k i }
 
 pub nodes-alike : (a b : Node) → a .test ≡ b .test → a .yes ≡ b .yes → a .no ≡ b .no → a ≡ b
 nodes-alike a b e h k = λ i. record { test = e i; yes = h i; no = k i }
+
+pub words-apart : (d e : Diagram) → word-of d ≡ word-of e → d ≡ e
+words-apart (Leaf m) (Leaf n) h = ap Leaf (amounts-alike m n (omega arith))
+words-apart (Leaf m) (Branch n) h = absurd (omega (arith, m .fits))
+words-apart (Branch m) (Leaf n) h = absurd (omega (arith, n .fits))
+words-apart (Branch m) (Branch n) h = ap Branch (amounts-alike m n (omega arith))

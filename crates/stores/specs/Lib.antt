@@ -1,2 +1,4 @@
+pub mod Memory
 pub mod Numbers
+pub mod Tests
 pub mod Words

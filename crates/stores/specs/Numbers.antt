@@ -46,9 +46,13 @@ pub record Entered {R : Type 0} (c : ℕ) (rs : List R) (r : R) (n : ℕ) (c′ 
   pub number : Numbered rs′ n r
   pub growth : Grown c rs r c′ rs′
 
--- r is not there, there is room for no further record, and nothing changed
-pub record Refused {R : Type 0} (c : ℕ) (slots : List R) (r : R) (c′ : ℕ) (slots′ : List R) : Type 0 where
+-- r is not there, and there is room for no further record
+pub record NoRoom {R : Type 0} (c : ℕ) (slots : List R) (r : R) : Type 0 where
   pub absent : Absent (held c slots) r
   pub full : room slots ≤ c
+
+-- there was no room for r, and nothing changed
+pub record Refused {R : Type 0} (c : ℕ) (slots : List R) (r : R) (c′ : ℕ) (slots′ : List R) : Type 0 where
+  pub no-room : NoRoom c slots r
   pub count-stays : c′ ≡ c
   pub slots-stay : slots′ ≡ slots

@@ -13,9 +13,10 @@ ghost use Rattle.stores.specs.Numbers.{record-at, held, numbers-limit, Distinc
 use super::same::Record;
 use faults::StoreFault;
 use format::Amount;
+use format::FIELD_UNIT;
 
 // A word can number this many records.
-const NUMBERS_LIMIT: u32 = 0xff_ffff;
+const NUMBERS_LIMIT: u32 = FIELD_UNIT - 1;
 
 // The records are in the first slots, as many as a count says that is kept elsewhere.
 #[derive(Drop)]

@@ -11,4 +11,7 @@ pub trait WeightKind {
 
     fn zero() -> u32
         ensures value { λ r. ⌜ r ≡ ops .zero ⌝ };
+
+    fn one() -> u32
+        ensures value { λ r. ⌜ r ≡ ops .one ⌝ };
 }

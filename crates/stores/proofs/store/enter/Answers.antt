@@ -23,8 +23,8 @@ returns-then-count-ge-NUMBERS-LIMIT g c =
     record {
       answer =
           (refl, record {
-            absent = absent-held (c .args .count .now) (c .args .slots .now) (c .in-use-places .result) (c .in-use-places .ensures) (c .args .entry) (c .in-rest .ensures tt);
-            full = full-from-either (c .args .count .now) (c .args .slots .now) (c .then-count-ge-NUMBERS-LIMIT .either);
+            no-room = record { absent = absent-held (c .args .count .now) (c .args .slots .now) (c .in-use-places .result) (c .in-use-places .ensures) (c .args .entry) (c .in-rest .ensures tt);
+            full = full-from-either (c .args .count .now) (c .args .slots .now) (c .then-count-ge-NUMBERS-LIMIT .either) };
             count-stays = refl;
             slots-stay = refl
           });

@@ -1,0 +1,12 @@
+// The three stores together, and the first construction over them.
+use super::records::Action;
+use super::records::Cell;
+use super::records::Node;
+use super::store::Store;
+
+#[derive(Drop)]
+pub struct Stores<'a> {
+    pub actions: Store<'a, Action>,
+    pub cells: Store<'a, Cell>,
+    pub nodes: Store<'a, Node>,
+}
