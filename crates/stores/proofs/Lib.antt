@@ -1,3 +1,4 @@
 pub mod Alike
 pub mod Composing
+pub mod Kept
 pub mod Numbered

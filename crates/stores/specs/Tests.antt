@@ -41,3 +41,46 @@ pub record OverDrop (t : Setting) (yes-cell : Amount) (node : Node) : Type 0 whe
   pub its-test : node .test ≡ t
   pub its-yes : node .yes ≡ Leaf yes-cell
   pub its-no : word-of (node .no) ≡ 0
+
+-- the records that the diagram of a test requests, entered one after the other, and its word
+pub record TestMade (one : ℕ) (t : Setting) (c : Counts) (s : Contents) (c′ : Counts) (s′ : Contents) (d : Diagram) : Type 0 where
+  pub action : Action
+  pub action-keeps-all : action .sets ≡ keep-all
+  pub action-number : Amount
+  pub action-entered : Entered (c .actions) (s .actions) action (action-number .number) (c′ .actions) (s′ .actions)
+  pub cell : Cell
+  pub cell-of-action : OnlyCell action-number one cell
+  pub cell-number : Amount
+  pub cell-entered : Entered (c .cells) (s .cells) cell (cell-number .number) (c′ .cells) (s′ .cells)
+  pub node : Node
+  pub node-over-cell : OverDrop t cell-number node
+  pub node-number : Amount
+  pub node-entered : Entered (c .nodes) (s .nodes) node (node-number .number) (c′ .nodes) (s′ .nodes)
+  pub word : d ≡ Branch node-number
+
+-- one of those records is absent from a store that is full
+pub data TestFull (one : ℕ) (t : Setting) (c : Counts) (s : Stores) : Type 0 where
+  actions-full :
+      (action : Action) → action .sets ≡ keep-all → NoRoom (c .actions) (now (s .actions .slots)) action → TestFull one t c s
+  cells-full :
+      (action : Action) →
+      action .sets ≡ keep-all →
+      (a : Amount) (c′ : ℕ) (as′ : List Action) →
+      Entered (c .actions) (held (c .actions) (now (s .actions .slots))) action (a .number) c′ as′ →
+      (cell : Cell) →
+      OnlyCell a one cell →
+      NoRoom (c .cells) (now (s .cells .slots)) cell →
+      TestFull one t c s
+  nodes-full :
+      (action : Action) →
+      action .sets ≡ keep-all →
+      (a : Amount) (c′ : ℕ) (as′ : List Action) →
+      Entered (c .actions) (held (c .actions) (now (s .actions .slots))) action (a .number) c′ as′ →
+      (cell : Cell) →
+      OnlyCell a one cell →
+      (b : Amount) (d′ : ℕ) (bs′ : List Cell) →
+      Entered (c .cells) (held (c .cells) (now (s .cells .slots))) cell (b .number) d′ bs′ →
+      (node : Node) →
+      OverDrop t b node →
+      NoRoom (c .nodes) (now (s .nodes .slots)) node →
+      TestFull one t c s

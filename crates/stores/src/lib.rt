@@ -1,5 +1,6 @@
 // Records under numbers: equal records get one number, and a refused construction leaves no trace.
 mod actions;
+mod construct;
 mod counts;
 mod memory;
 mod records;
