@@ -4,7 +4,7 @@ use Prim.Native.Nat.{ℕ}
 use Rattle.format.specs.declared.settings.Setting.{Setting}
 use Rattle.stores.specs.Tests.{Contents, contents, TestMade, TestFull}
 use Rattle.stores.specs.declared.counts.Counts.{Counts}
-use Rattle.stores.specs.declared.records.Diagram.{Diagram}
+use Rattle.records.specs.declared.kinds.Diagram.{Diagram}
 use Rattle.stores.specs.declared.stores.Stores.{Stores}
 
 pub contents-alike : (s t : Contents) → s .actions ≡ t .actions → s .cells ≡ t .cells → s .nodes ≡ t .nodes → s ≡ t

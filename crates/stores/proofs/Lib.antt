@@ -1,4 +1,2 @@
-pub mod Alike
-pub mod Composing
 pub mod Kept
 pub mod Numbered

@@ -7,13 +7,13 @@ use Rattle.format.specs.Actions.{keep-all}
 use Rattle.format.specs.declared.settings.Amount.{Amount}
 use Rattle.format.specs.declared.settings.Setting.{Setting}
 use Rattle.stores.specs.Numbers.{held, Entered, NoRoom}
-use Rattle.stores.specs.Words.{word-of}
+use Rattle.records.specs.Words.{word-of}
 use Rattle.stores.specs.declared.counts.Counts.{Counts}
-use Rattle.stores.specs.declared.records.Action.{Action}
-use Rattle.stores.specs.declared.records.Cell.{Cell}
-use Rattle.stores.specs.declared.records.Diagram.{Diagram}
-use Rattle.stores.specs.declared.records.Diagram.the-variants.{Leaf, Branch}
-use Rattle.stores.specs.declared.records.Node.{Node}
+use Rattle.records.specs.declared.kinds.Action.{Action}
+use Rattle.records.specs.declared.kinds.Cell.{Cell}
+use Rattle.records.specs.declared.kinds.Diagram.{Diagram}
+use Rattle.records.specs.declared.kinds.Diagram.the-variants.{Leaf, Branch}
+use Rattle.records.specs.declared.kinds.Node.{Node}
 use Rattle.stores.specs.declared.stores.Stores.{Stores}
 
 -- the records in store

@@ -5,18 +5,18 @@ ghost use lib.ListN.{length};
 ghost use Rattle.std.specs.Results.{Cases};
 ghost use Rattle.faults.specs.declared.layers.StoreFault.the-variants.{Full};
 ghost use Rattle.weights.specs.Weights.{Ops};
-ghost use Rattle.stores.specs.Words.{word-of};
+ghost use Rattle.records.specs.Words.{word-of};
 ghost use Rattle.stores.specs.Tests.{contents, OnlyCell, OverDrop, TestMade, TestFull};
 
 use super::counts::Counts;
 use super::counts::Guard;
-use super::records::Action;
-use super::records::Cell;
-use super::records::Diagram;
-use super::records::Node;
-use super::same::ActionRecord;
-use super::same::CellRecord;
-use super::same::NodeRecord;
+use records::Action;
+use records::Cell;
+use records::Diagram;
+use records::Node;
+use records::ActionRecord;
+use records::CellRecord;
+use records::NodeRecord;
 use super::stores::Stores;
 use faults::StoreFault;
 use format::Amount;
@@ -42,17 +42,6 @@ fn only_cell<K: WeightKind>(action: Amount) -> Cell
         rest: Amount {
             number: 0,
         },
-    }
-}
-
-impl Diagram {
-    // The diagram that drops every frame.
-    pub fn drop_all() -> Diagram
-        ensures { λ r. ⌜ word-of r ≡ 0 ⌝ }
-    {
-        Diagram::Leaf(Amount {
-            number: 0,
-        })
     }
 }
 

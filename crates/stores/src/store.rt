@@ -10,7 +10,7 @@ ghost use Rattle.std.specs.declared.option.Option.the-variants.{Some};
 ghost use Rattle.faults.specs.declared.layers.StoreFault.the-variants.{Full};
 ghost use Rattle.stores.specs.Numbers.{record-at, held, numbers-limit, Distinct, Entered, Refused};
 
-use super::same::Record;
+use records::Record;
 use faults::StoreFault;
 use format::Amount;
 use format::FIELD_UNIT;

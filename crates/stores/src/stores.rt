@@ -1,7 +1,7 @@
 // The three stores together, and the first construction over them.
-use super::records::Action;
-use super::records::Cell;
-use super::records::Node;
+use records::Action;
+use records::Cell;
+use records::Node;
 use super::store::Store;
 
 #[derive(Drop)]
