@@ -1,5 +1,5 @@
 -- Actions field by field.
-use mathlib.Core.Path.{_≡_, refl, sym, ap, _∙_}
+use mathlib.Core.Path.{_≡_, refl, sym, ap, subst, _∙_}
 use mathlib.Core.List.{List, [], _∷_}
 use mathlib.Core.Logic.{_⊎_, inl, inr, ⊎-elim}
 use mathlib.Core.Bool.{Bool, true, false, cond}
@@ -17,8 +17,8 @@ use Rattle.std.specs.declared.cmp.Ordering.{Ordering}
 use Rattle.std.specs.declared.cmp.Ordering.the-variants.{Less, Equal, Greater}
 use Rattle.std.specs.declared.option.Option.{Option}
 use Rattle.std.specs.declared.option.Option.the-variants.{Some, None}
-use Rattle.format.specs.Actions.{last-set, compose, unless, narrow-action, SetBelow, ActionBelow, LegalSets}
-use Rattle.format.specs.Fields.{fields}
+use Rattle.format.specs.Actions.{apply, replaced, last-set, compose, unless, narrow-action, SetBelow, ActionBelow, LegalSets}
+use Rattle.format.specs.Fields.{fields, LegalValue}
 use Rattle.records.specs.declared.kinds.Action.{Action}
 
 -- the first field in which they differ decides
@@ -119,3 +119,20 @@ ranked-at a b k Less h e u r =
 ranked-at a b k Equal h e u r = absurd (u refl)
 ranked-at a b k Greater h e u r =
     below-at (b .sets) (a .sets) k (omega (arith, b .whole)) (omega (arith, a .whole)) (λ j q. sym (e j q)) r
+
+replaced-legal : (f v : ℕ) (x : Option ℕ) → ((n : ℕ) → x ≡ Some n → LegalValue f n) → LegalValue f v → LegalValue f (replaced x v)
+replaced-legal f v None p l = l
+replaced-legal f v (Some n) p l = p n refl
+
+-- a frame of legal values has legal values after an action
+pub apply-legal :
+    (a : Action) (vs : List ℕ) →
+    length vs ≡ fields →
+    ((f : ℕ) → f < fields → LegalValue f (getD vs f 0)) →
+    (f : ℕ) →
+    f < fields →
+    LegalValue f (getD (apply (a .sets) vs) f 0)
+apply-legal a vs w l f h =
+    subst (λ n. LegalValue f n)
+    (sym (getD-zip2 replaced (a .sets) vs f None 0 0 (omega (arith, a .whole)) (omega arith)))
+    (replaced-legal f (getD vs f 0) (getD (a .sets) f None) (a .legal f) (l f h))

@@ -1,11 +1,11 @@
 // What is done with actions.
 ghost use mathlib.Core.Path.{_≡_};
-ghost use Prim.Native.Nat.{_<_};
-ghost use lib.ListN.{length, set};
+ghost use Prim.Native.Nat.{ℕ, _<_};
+ghost use lib.ListN.{getD, set};
 ghost use Rattle.std.specs.Orderings.{Ranked};
 ghost use Rattle.std.specs.declared.option.Option.the-variants.{Some};
 ghost use Rattle.format.specs.Actions.{apply, replaced as replace, compose, last-set, narrow-action, unless as without, keep-all, SetBelow, ActionBelow};
-ghost use Rattle.format.specs.Fields.{fields};
+ghost use Rattle.format.specs.Fields.{fields, LegalValue};
 
 use super::kinds::Action;
 use format::FIELDS;
@@ -121,7 +121,8 @@ impl Action {
 
     // The values of a frame's fields after the action, from those before it.
     pub fn apply(&self, values: [u32; 8]) -> [u32; 8]
-        ensures { λ r. ⌜ r ≡ apply (now (self .entry) .sets) values ⌝ }
+        ensures after { λ r. ⌜ r ≡ apply (now (self .entry) .sets) values ⌝ }
+        ensures legal { λ r. ⌜ (((f : ℕ) → f < fields → LegalValue f (getD values f 0)) → (f : ℕ) → f < fields → LegalValue f (getD r f 0)) ⌝ }
     {
         let mut after = values;
         for field in 0..FIELDS as usize {

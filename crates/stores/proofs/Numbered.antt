@@ -63,22 +63,28 @@ module _ {X : Type 0} where
       omega arith
 
   -- places is how many slots are in use
-  module _ (c : ℕ) (slots : List X) (places : ℕ) (used : places ≡ min (min c numbers-limit) (length slots)) (r : X) where
-    pub found-number : (i n : ℕ) → i < places → nth slots i ≡ Some r → n ≡ i + 1 → Numbered (held c slots) n r
-    found-number i n h e k =
+  module _ (c : ℕ) (slots : List X) (places : ℕ) (used : places ≡ min (min c numbers-limit) (length slots)) where
+    pub found-number : (r : X) (i n : ℕ) → i < places → nth slots i ≡ Some r → n ≡ i + 1 → Numbered (held c slots) n r
+    found-number r i n h e k =
         let p : n - 1 ≡ i = omega arith in
         record-at-place (held c slots) n (omega arith)
         ∙ (ap (nth (held c slots)) p ∙ (nth-take (min c numbers-limit) slots i (omega arith) ∙ e))
 
-    pub entered-found :
-        (i n : ℕ) → i < places → nth slots i ≡ Some r → n ≡ i + 1 → Entered c (held c slots) r n c (held c slots)
-    entered-found i n h e k = record { number = found-number i n h e k; growth = inl (refl, refl) }
+    -- the record under a number, read at its place
+    pub read-number : (n : ℕ) → 0 < n → nth (take places slots) (n - 1) ≡ record-at (held c slots) n
+    read-number n h =
+        ap (λ k. nth (take k slots) (n - 1)) used
+        ∙ (ap (λ rs. nth rs (n - 1)) (take-within (min c numbers-limit) slots) ∙ sym (record-at-place (held c slots) n h))
 
-    pub absent-held : ((k : ℕ) → k < places → nth slots k ≡ Some r → ⊥) → Absent (held c slots) r
-    absent-held h zero e =
+    pub entered-found :
+        (r : X) (i n : ℕ) → i < places → nth slots i ≡ Some r → n ≡ i + 1 → Entered c (held c slots) r n c (held c slots)
+    entered-found r i n h e k = record { number = found-number r i n h e k; growth = inl (refl, refl) }
+
+    pub absent-held : (r : X) → ((k : ℕ) → k < places → nth slots k ≡ Some r → ⊥) → Absent (held c slots) r
+    absent-held r h zero e =
         let z : _≡_ {A = ℕ} 0 1 = cc in
         omega arith
-    absent-held h (suc n) e = ⊎-elim inside outside (cases-lt n places)
+    absent-held r h (suc n) e = ⊎-elim inside outside (cases-lt n places)
       where
         inside : n < places → ⊥
         inside l = h n l (sym (nth-take (min c numbers-limit) slots n (omega arith)) ∙ e)

@@ -2,7 +2,8 @@
 use mathlib.Core.Path.{_≡_}
 use mathlib.Core.List.{List}
 use Prim.Native.Nat.{ℕ}
-use denote.Ref.{now}
+use denote.Ref.{now, name}
+use lib.ListN.{length}
 use Rattle.format.specs.Actions.{keep-all}
 use Rattle.format.specs.declared.settings.Amount.{Amount}
 use Rattle.format.specs.declared.settings.Setting.{Setting}
@@ -29,6 +30,15 @@ contents c s =
       cells = held (c .cells) (now (s .cells .slots));
       nodes = held (c .nodes) (now (s .nodes .slots))
     }
+
+-- the stores are in the memory that they were in
+pub record SameMemory (s s′ : Stores) : Type 0 where
+  pub actions-lender : name (s′ .actions .slots) ≡ name (s .actions .slots)
+  pub cells-lender : name (s′ .cells .slots) ≡ name (s .cells .slots)
+  pub nodes-lender : name (s′ .nodes .slots) ≡ name (s .nodes .slots)
+  pub actions-size : length (now (s′ .actions .slots)) ≡ length (now (s .actions .slots))
+  pub cells-size : length (now (s′ .cells .slots)) ≡ length (now (s .cells .slots))
+  pub nodes-size : length (now (s′ .nodes .slots)) ≡ length (now (s .nodes .slots))
 
 -- the cell of an action's number and a weight, with nothing after it
 pub record OnlyCell (action : Amount) (weight : ℕ) (cell : Cell) : Type 0 where

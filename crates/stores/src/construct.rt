@@ -1,12 +1,8 @@
 // The first construction over the stores: the diagram of one test.
 ghost use mathlib.Core.Path.{_≡_};
-ghost use denote.Ref.{name};
-ghost use lib.ListN.{length};
 ghost use Rattle.std.specs.Results.{Cases};
 ghost use Rattle.faults.specs.declared.layers.StoreFault.the-variants.{Full};
-ghost use Rattle.weights.specs.Weights.{Ops};
-ghost use Rattle.records.specs.Words.{word-of};
-ghost use Rattle.stores.specs.Tests.{contents, OnlyCell, OverDrop, TestMade, TestFull};
+ghost use Rattle.stores.specs.Tests.{contents, OnlyCell, OverDrop, TestMade, TestFull, SameMemory};
 
 use super::counts::Counts;
 use super::counts::Guard;
@@ -61,6 +57,7 @@ impl Stores<'_> {
     fn add_test<K: WeightKind>(&mut self, counts: &mut Counts, test: Setting) -> Result<Diagram, StoreFault>
         ensures answer { λ r. ⌜ Cases r (λ d. TestMade (K·WeightKind .ops .one) test (now (counts .entry)) (contents (now (counts .entry)) (now (self .entry))) (now (counts .exit)) (contents (now (counts .exit)) (now (self .exit))) d) (λ f. (f ≡ Full) × TestFull (K·WeightKind .ops .one) test (now (counts .entry)) (now (self .entry))) ⌝ }
         ensures stays { λ _. ⌜ contents (now (counts .entry)) (now (self .exit)) ≡ contents (now (counts .entry)) (now (self .entry)) ⌝ }
+        ensures lent { λ _. ⌜ SameMemory (now (self .entry)) (now (self .exit)) ⌝ }
     {
         let action = self.actions.enter(&mut counts.actions, Action::keep_all())?;
         let cell = self.cells.enter(&mut counts.cells, only_cell::<K>(action))?;
@@ -72,6 +69,7 @@ impl Stores<'_> {
     pub fn test<K: WeightKind>(&mut self, counts: &mut Counts, test: Setting) -> Result<Diagram, StoreFault>
         ensures answer { λ r. ⌜ Cases r (λ d. TestMade (K·WeightKind .ops .one) test (now (counts .entry)) (contents (now (counts .entry)) (now (self .entry))) (now (counts .exit)) (contents (now (counts .exit)) (now (self .exit))) d) (λ f. (f ≡ Full) × TestFull (K·WeightKind .ops .one) test (now (counts .entry)) (now (self .entry)) × (now (counts .exit) ≡ now (counts .entry))) ⌝ }
         ensures stays { λ _. ⌜ contents (now (counts .entry)) (now (self .exit)) ≡ contents (now (counts .entry)) (now (self .entry)) ⌝ }
+        ensures lent { λ _. ⌜ SameMemory (now (self .entry)) (now (self .exit)) ⌝ }
     {
         let mut guard = Guard::over(counts);
         let diagram = self.add_test::<K>(guard.counts, test)?;

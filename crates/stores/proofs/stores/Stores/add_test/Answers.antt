@@ -11,7 +11,16 @@ returns-in-Break-action g c =
     rw (p .1, p .2)
     record {
       answer = (h .answer .0, TestFull.actions-full (c .keep-all .result) (c .keep-all .ensures) (h .answer .1 .no-room));
-      stays = contents-alike _ _ (h .stays) refl refl
+      stays = contents-alike _ _ (h .stays) refl refl;
+      lent =
+          record {
+            actions-lender = h .lender;
+            cells-lender = refl;
+            nodes-lender = refl;
+            actions-size = h .size;
+            cells-size = refl;
+            nodes-size = refl
+          }
     }
 
 pub returns-in-Break-cell : need.returns-in-Break-cell
@@ -23,7 +32,16 @@ returns-in-Break-cell g c =
     record {
       answer =
           (k .answer .0, TestFull.cells-full (c .keep-all .result) (c .keep-all .ensures) (c .in-Continue-action .action) _ _ (h .answer) (c .only-cell .result) (c .only-cell .ensures) (k .answer .1 .no-room));
-      stays = contents-alike _ _ (h .stays) (k .stays) refl
+      stays = contents-alike _ _ (h .stays) (k .stays) refl;
+      lent =
+          record {
+            actions-lender = h .lender;
+            cells-lender = k .lender;
+            nodes-lender = refl;
+            actions-size = h .size;
+            cells-size = k .size;
+            nodes-size = refl
+          }
     }
 
 pub returns-in-Break-node : need.returns-in-Break-node
@@ -36,7 +54,16 @@ returns-in-Break-node g c =
     record {
       answer =
           (l .answer .0, TestFull.nodes-full (c .keep-all .result) (c .keep-all .ensures) (c .in-Continue-action .action) _ _ (h .answer) (c .only-cell .result) (c .only-cell .ensures) (c .in-Continue-cell .cell) _ _ (k .answer) (c .over-drop .result) (c .over-drop .ensures) (l .answer .1 .no-room));
-      stays = contents-alike _ _ (h .stays) (k .stays) (l .stays)
+      stays = contents-alike _ _ (h .stays) (k .stays) (l .stays);
+      lent =
+          record {
+            actions-lender = h .lender;
+            cells-lender = k .lender;
+            nodes-lender = l .lender;
+            actions-size = h .size;
+            cells-size = k .size;
+            nodes-size = l .size
+          }
     }
 
 pub returns : need.returns
@@ -61,5 +88,14 @@ returns g c =
             node-entered = l .answer;
             word = refl
           };
-      stays = contents-alike _ _ (h .stays) (k .stays) (l .stays)
+      stays = contents-alike _ _ (h .stays) (k .stays) (l .stays);
+      lent =
+          record {
+            actions-lender = h .lender;
+            cells-lender = k .lender;
+            nodes-lender = l .lender;
+            actions-size = h .size;
+            cells-size = k .size;
+            nodes-size = l .size
+          }
     }
