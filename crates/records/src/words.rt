@@ -11,6 +11,15 @@ use format::Word;
 // The kind of a node's word; a leaf's is 0.
 const BRANCH: u32 = 1;
 
+fn bits(diagram: Diagram) -> u32
+    ensures { λ r. ⌜ r ≡ word-of diagram ⌝ }
+{
+    match diagram {
+        Diagram::Leaf(first) => first.number,
+        Diagram::Branch(node) => KIND_UNIT + node.number,
+    }
+}
+
 impl Diagram {
     // The diagram with this word, or none where no diagram has it.
     pub fn from_word(bits: u32) -> Option<Diagram>
@@ -32,10 +41,7 @@ impl Diagram {
         ensures word { λ r. ⌜ r ≡ word-of self ⌝ }
         ensures alone { λ r. ⌜ ((d : Diagram) → word-of d ≡ r → d ≡ self) ⌝ }
     {
-        match self {
-            Diagram::Leaf(first) => first.number,
-            Diagram::Branch(node) => KIND_UNIT + node.number,
-        }
+        bits(self)
     }
 
     // The diagram that drops every frame.
