@@ -10,8 +10,14 @@ use Rattle.std.proofs.shelf.Lists.{length-take, length-push, getD-push, take-al
 use Rattle.std.proofs.shelf.Tests.{cases-lt}
 use Rattle.std.proofs.shelf.Maps.{nth-past, nth-read, nth-getD}
 use Rattle.std.specs.Finite.{nth}
+use Rattle.std.specs.Results.{Cases}
 use Rattle.std.specs.declared.option.Option.{Option}
 use Rattle.std.specs.declared.option.Option.the-variants.{Some, None}
+use Rattle.std.specs.declared.result.Result.{Result}
+use Rattle.std.specs.declared.result.Result.the-variants.{Ok, Err}
+use Rattle.faults.specs.declared.layers.StoreFault.{StoreFault}
+use Rattle.faults.specs.declared.layers.StoreFault.the-variants.{Full}
+use Rattle.format.specs.declared.settings.Amount.{Amount}
 use Rattle.stores.specs.Numbers.{record-at, Numbered, Absent, Distinct, Entered, Refused, held, room, numbers-limit}
 
 module _ {X : Type 0} where
@@ -139,12 +145,6 @@ module _ {X : Type 0} where
       last : (m ≡ length rs + 1) × (x ≡ r) → m ≡ n
       last p = ⊎-elim (λ q. absurd (a n (q ∙ ap Some (p .1)))) (λ q. omega (arith, p .0, q .0)) (pushed rs r n x f)
 
-  pub full-from-either :
-      (c : ℕ) (slots : List X) →
-      (numbers-limit ≤ c) ⊎ ((c < numbers-limit) × (length slots ≤ c)) →
-      room slots ≤ c
-  full-from-either c slots h = ⊎-elim (λ a. omega arith) (λ a. omega (arith, a .1)) h
-
   module _ (c : ℕ) (slots : List X) (r : X) where
     pub entered-added :
         (n : ℕ) →
@@ -171,3 +171,39 @@ module _ {X : Type 0} where
         Distinct (held (c + 1) (set slots c r))
     distinct-added l h a d =
         subst (λ rs. Distinct rs) (sym (held-more c slots r l h)) (distinct-pushed (held c slots) r d a)
+
+  -- what holds once a record that was not in store has been added, or refused
+  module _ (c : ℕ) (slots : List X) (r : X) (c′ : ℕ) (slots′ : List X) (a : Absent (held c slots) r) where
+    pub added-answer :
+        (o : Result Amount StoreFault) →
+        Cases o (λ n. (c < numbers-limit) × (c < length slots) × (n .number ≡ c + 1)) (λ f. (f ≡ Full) × (room slots ≤ c)) →
+        Cases o (λ _. c′ ≡ c + 1) (λ _. c′ ≡ c) →
+        Cases o (λ _. slots′ ≡ set slots c r) (λ _. slots′ ≡ slots) →
+        Cases o (λ n. Entered c (held c slots) r (n .number) c′ (held c′ slots′)) (λ f. (f ≡ Full) × Refused c slots r c′ slots′)
+    added-answer (Ok n) h k w =
+        subst (λ d. Entered c (held c slots) r (n .number) d (held d slots′)) (sym k)
+        (subst (λ xs. Entered c (held c slots) r (n .number) (c + 1) (held (c + 1) xs)) (sym w)
+        (entered-added c slots r (n .number) (h .0) (h .1) a (h .2)))
+    added-answer (Err f) h k w =
+        (h .0, record { no-room = record { absent = a; full = h .1 }; count-stays = k; slots-stay = w })
+
+    pub added-stays :
+        (o : Result Amount StoreFault) →
+        Cases o (λ n. (c < numbers-limit) × (c < length slots) × (n .number ≡ c + 1)) (λ f. (f ≡ Full) × (room slots ≤ c)) →
+        Cases o (λ _. slots′ ≡ set slots c r) (λ _. slots′ ≡ slots) →
+        held c slots′ ≡ held c slots
+    added-stays (Ok n) h w = ap (held c) w ∙ held-kept c slots r (h .0)
+    added-stays (Err f) h w = ap (held c) w
+
+    pub added-distinct :
+        (o : Result Amount StoreFault) →
+        Cases o (λ n. (c < numbers-limit) × (c < length slots) × (n .number ≡ c + 1)) (λ f. (f ≡ Full) × (room slots ≤ c)) →
+        Cases o (λ _. c′ ≡ c + 1) (λ _. c′ ≡ c) →
+        Cases o (λ _. slots′ ≡ set slots c r) (λ _. slots′ ≡ slots) →
+        Distinct (held c slots) →
+        Distinct (held c′ slots′)
+    added-distinct (Ok n) h k w d =
+        subst (λ e. Distinct (held e slots′)) (sym k)
+        (subst (λ xs. Distinct (held (c + 1) xs)) (sym w) (distinct-added c slots r (h .0) (h .1) a d))
+    added-distinct (Err f) h k w d =
+        subst (λ e. Distinct (held e slots′)) (sym k) (subst (λ xs. Distinct (held c xs)) (sym w) d)

@@ -2,13 +2,13 @@
 ghost use mathlib.Core.Path.{_≡_};
 ghost use Prim.Native.Nat.{ℕ, _+_, _<_, _≤_, min};
 ghost use denote.Ref.{name};
-ghost use lib.ListN.{length, take};
+ghost use lib.ListN.{length, set, take};
 ghost use Rattle.std.specs.Finite.{nth};
 ghost use Rattle.std.specs.Options.{Cases as BySome};
 ghost use Rattle.std.specs.Results.{Cases};
 ghost use Rattle.std.specs.declared.option.Option.the-variants.{Some};
 ghost use Rattle.faults.specs.declared.layers.StoreFault.the-variants.{Full};
-ghost use Rattle.stores.specs.Numbers.{record-at, held, numbers-limit, Distinct, Entered, Refused};
+ghost use Rattle.stores.specs.Numbers.{record-at, held, room, numbers-limit, Distinct, Entered, Refused};
 
 use records::Record;
 use faults::StoreFault;
@@ -67,6 +67,21 @@ fn number_at(place: usize) -> Amount
     }
 }
 
+// Writes a record behind the last, if there is room.
+fn add<R: Record>(slots: &mut [R], count: &mut u32, entry: R) -> Result<Amount, StoreFault>
+    ensures added { λ r. ⌜ Cases r (λ n. (now (count .entry) < numbers-limit) × (now (count .entry) < length (now (slots .entry))) × (n .number ≡ now (count .entry) + 1)) (λ f. (f ≡ Full) × (room (now (slots .entry)) ≤ now (count .entry))) ⌝ }
+    ensures counted { λ r. ⌜ Cases r (λ _. now (count .exit) ≡ now (count .entry) + 1) (λ _. now (count .exit) ≡ now (count .entry)) ⌝ }
+    ensures written { λ r. ⌜ Cases r (λ _. now (slots .exit) ≡ set (now (slots .entry)) (now (count .entry)) entry) (λ _. now (slots .exit) ≡ now (slots .entry)) ⌝ }
+{
+    let next = *count as usize;
+    if *count >= NUMBERS_LIMIT || next >= slots.len() {
+        return Err(StoreFault::Full);
+    }
+    slots[next] = entry;
+    *count += 1;
+    Ok(number_at(next))
+}
+
 fn enter<R: Record>(slots: &mut [R], count: &mut u32, entry: R) -> Result<Amount, StoreFault>
     ensures answer { λ r. ⌜ Cases r (λ n. Entered (now (count .entry)) (held (now (count .entry)) (now (slots .entry))) entry (n .number) (now (count .exit)) (held (now (count .exit)) (now (slots .exit)))) (λ f. (f ≡ Full) × Refused (now (count .entry)) (now (slots .entry)) entry (now (count .exit)) (now (slots .exit))) ⌝ }
     ensures stays { λ _. ⌜ held (now (count .entry)) (now (slots .exit)) ≡ held (now (count .entry)) (now (slots .entry)) ⌝ }
@@ -76,13 +91,7 @@ fn enter<R: Record>(slots: &mut [R], count: &mut u32, entry: R) -> Result<Amount
     if let Some(place) = find(slots, places, entry) {
         return Ok(number_at(place));
     }
-    let next = *count as usize;
-    if *count >= NUMBERS_LIMIT || next >= slots.len() {
-        return Err(StoreFault::Full);
-    }
-    slots[next] = entry;
-    *count += 1;
-    Ok(number_at(next))
+    add(slots, count, entry)
 }
 
 impl<R: Record> Store<'_, R> {
