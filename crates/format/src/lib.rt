@@ -2,7 +2,7 @@
 ghost use mathlib.Core.Path.{_≡_};
 ghost use Prim.Native.Nat.{_<_, _≤_};
 ghost use Rattle.std.specs.Options.{Cases};
-ghost use Rattle.format.specs.Fields.{fields, range, LegalValue};
+ghost use Rattle.format.specs.Fields.{fields, field-name, range, LegalValue};
 ghost use Rattle.format.specs.Words.{value-end, kind-of, field-of, value-of};
 ghost use Rattle.format.specs.PolicyWords.{bits-of, LegalWord};
 
@@ -24,12 +24,14 @@ pub const NESTING_LIMIT: usize = 64;
 pub const WAITING_LIMIT: usize = 256;
 // A cost number is at most this.
 pub const COST_LIMIT: u32 = 65_535;
+// A word's value is below this.
+pub const VALUE_END: u32 = 0x100_0000;
 
 // A word of kind 1, field 0 and value 0.
 pub const KIND_UNIT: u32 = 0x1000_0000;
 
 // A word of kind 0, field 1 and value 0.
-pub const FIELD_UNIT: u32 = 0x100_0000;
+pub const FIELD_UNIT: u32 = VALUE_END;
 
 // A word by its parts.
 #[derive(Clone, Copy)]
@@ -58,6 +60,22 @@ fn range_of(_field: u32) -> u32
     ensures { λ r. ⌜ r ≡ range «_field» ⌝ }
 {
     FIELD_UNIT
+}
+
+// What a field is called in texts and records.
+pub fn field_name(field: u32) -> &'static [u8]
+    ensures { λ r. ⌜ now r ≡ field-name field ⌝ }
+{
+    match field {
+        0 => b"sw",
+        1 => b"pt",
+        2 => b"vlan",
+        3 => b"type",
+        4 => b"srch",
+        5 => b"srcl",
+        6 => b"dsth",
+        _ => b"dstl",
+    }
 }
 
 impl Setting {
@@ -102,6 +120,28 @@ impl PolicyWord {
             PolicyWord::Union => 6 * KIND_UNIT,
             PolicyWord::Sequence => 7 * KIND_UNIT,
             PolicyWord::Star => 8 * KIND_UNIT,
+        }
+    }
+
+    // The policy word of these bits, or none where no legal policy word has them.
+    pub fn decode(bits: u32) -> Option<PolicyWord>
+        ensures some { λ r. ⌜ Cases r (Unit {0}) (λ w. LegalWord w × (bits-of w ≡ bits)) ⌝ }
+        ensures none { λ r. ⌜ Cases r ((w : PolicyWord) → LegalWord w → bits-of w ≡ bits → ⊥) (λ _. Unit {0}) ⌝ }
+    {
+        let word = Word::split(bits);
+        match word.kind {
+            2 => Some(PolicyWord::Test(Setting::new(word.field, word.value)?)),
+            3 => Some(PolicyWord::Set(Setting::new(word.field, word.value)?)),
+            _ if word.field != 0 => None,
+            4 if word.value <= COST_LIMIT => Some(PolicyWord::Cost(Amount::new(word.value)?)),
+            _ if word.value != 0 => None,
+            0 => Some(PolicyWord::Drop),
+            1 => Some(PolicyWord::Pass),
+            5 => Some(PolicyWord::Not),
+            6 => Some(PolicyWord::Union),
+            7 => Some(PolicyWord::Sequence),
+            8 => Some(PolicyWord::Star),
+            _ => None,
         }
     }
 }

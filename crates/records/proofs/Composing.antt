@@ -100,6 +100,7 @@ set-legal xs f v p q k m e =
     there h l =
         ap (λ j. getD xs j None) h
         ∙ q m (sym (getD-set-same xs f v None l) ∙ (ap (λ j. getD (set xs f v) j None) (sym h) ∙ e))
+
     past : k ≡ f → length xs ≤ f → getD xs k None ≡ Some m
     past h l = ap (λ ys. getD ys k None) (sym (set-past xs f v l)) ∙ e
 

@@ -6,10 +6,10 @@ ghost use Rattle.std.specs.Orderings.{Ranked};
 ghost use Rattle.std.specs.declared.option.Option.the-variants.{Some};
 ghost use Rattle.format.specs.Actions.{apply, replaced as replace, compose, last-set, narrow-action, unless as without, keep-all, SetBelow, ActionBelow};
 ghost use Rattle.format.specs.Fields.{fields, LegalValue};
-
 use super::kinds::Action;
-use format::FIELDS;
+use super::kinds::WIDTH;
 use format::Setting;
+use frames::Frame;
 use std::cmp::Ordering;
 
 fn compare_sets(a: Option<u32>, b: Option<u32>) -> Ordering
@@ -38,13 +38,7 @@ fn unless(value: u32, set: Option<u32>) -> Option<u32>
     ensures { λ r. ⌜ r ≡ without value set ⌝ }
 {
     match set {
-        Some(other) => {
-            if other == value {
-                None
-            } else {
-                Some(other)
-            }
-        }
+        Some(other) => { if other == value { None } else { Some(other) } }
         None => None,
     }
 }
@@ -59,14 +53,25 @@ fn replaced(set: Option<u32>, value: u32) -> u32
     }
 }
 
-fn composed(first: &Action, second: &Action) -> [Option<u32>; 8]
+fn composed(first: &Action, second: &Action) -> [Option<u32>; WIDTH]
     ensures { λ r. ⌜ r ≡ compose (now (first .entry) .sets) (now (second .entry) .sets) ⌝ }
 {
-    let mut sets = [None; 8];
-    for field in 0..FIELDS as usize {
+    let mut sets = [None; WIDTH];
+    for field in 0..WIDTH {
         sets[field] = last_set(first.sets[field], second.sets[field]);
     }
     sets
+}
+
+fn applied(action: &Action, values: [u32; WIDTH]) -> [u32; WIDTH]
+    ensures after { λ r. ⌜ r ≡ apply (now (action .entry) .sets) values ⌝ }
+    ensures legal { λ r. ⌜ (((f : ℕ) → f < fields → LegalValue f (getD values f 0)) → (f : ℕ) → f < fields → LegalValue f (getD r f 0)) ⌝ }
+{
+    let mut after = values;
+    for field in 0..WIDTH {
+        after[field] = replaced(action.sets[field], values[field]);
+    }
+    after
 }
 
 impl Action {
@@ -75,7 +80,7 @@ impl Action {
         ensures { λ r. ⌜ r .sets ≡ keep-all ⌝ }
     {
         Action {
-            sets: [None; 8],
+            sets: [None; WIDTH],
         }
     }
 
@@ -83,7 +88,7 @@ impl Action {
     pub fn setting(to: Setting) -> Action
         ensures { λ r. ⌜ r .sets ≡ set keep-all (to .field) (Some (to .value)) ⌝ }
     {
-        let mut sets = [None; 8];
+        let mut sets = [None; WIDTH];
         sets[to.field as usize] = Some(to.value);
         Action { sets }
     }
@@ -92,7 +97,7 @@ impl Action {
     pub fn compare(&self, other: &Action) -> Ordering
         ensures { λ r. ⌜ Ranked r (ActionBelow (now (self .entry) .sets) (now (other .entry) .sets)) (now (self .entry) ≡ now (other .entry)) (ActionBelow (now (other .entry) .sets) (now (self .entry) .sets)) ⌝ }
     {
-        for field in 0..FIELDS as usize {
+        for field in 0..WIDTH {
             match compare_sets(self.sets[field], other.sets[field]) {
                 Ordering::Equal => {}
                 unequal => return unequal,
@@ -119,15 +124,11 @@ impl Action {
         Action { sets }
     }
 
-    // The values of a frame's fields after the action, from those before it.
-    pub fn apply(&self, values: [u32; 8]) -> [u32; 8]
-        ensures after { λ r. ⌜ r ≡ apply (now (self .entry) .sets) values ⌝ }
-        ensures legal { λ r. ⌜ (((f : ℕ) → f < fields → LegalValue f (getD values f 0)) → (f : ℕ) → f < fields → LegalValue f (getD r f 0)) ⌝ }
+    // The frame after the action.
+    pub fn apply(&self, frame: &Frame) -> Frame
+        ensures { λ r. ⌜ r .values ≡ apply (now (self .entry) .sets) (now (frame .entry) .values) ⌝ }
     {
-        let mut after = values;
-        for field in 0..FIELDS as usize {
-            after[field] = replaced(self.sets[field], values[field]);
-        }
-        after
+        let values = applied(self, frame.values);
+        Frame { values }
     }
 }

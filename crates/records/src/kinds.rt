@@ -3,14 +3,17 @@ ghost use mathlib.Core.Path.{_≡_};
 ghost use lib.ListN.{length};
 ghost use Rattle.format.specs.Actions.{LegalSets};
 ghost use Rattle.format.specs.Fields.{fields};
-
 use format::Amount;
+use format::FIELDS;
 use format::Setting;
+
+// How many fields an action has.
+pub const WIDTH: usize = FIELDS as usize;
 
 // For each field the value that it is set to, or none, which keeps the field.
 #[derive(Clone, Copy)]
 pub struct Action {
-    pub sets: [Option<u32>; 8],
+    pub sets: [Option<u32>; WIDTH],
     ghost whole: { length sets ≡ fields },
     ghost legal: { LegalSets sets },
 }

@@ -1,13 +1,12 @@
 // When two records are the same.
 ghost use mathlib.Core.Path.{_≡_};
 ghost use Rattle.std.specs.Orderings.{Decides};
-
 use super::kinds::Action;
 use super::kinds::Cell;
 use super::kinds::Diagram;
 use super::kinds::Node;
+use super::kinds::WIDTH;
 use format::Amount;
-use format::FIELDS;
 use format::Setting;
 
 // What a store holds.
@@ -56,7 +55,7 @@ fn same_diagram(a: Diagram, b: Diagram) -> bool
 
 pub impl Record for Action as ActionRecord {
     fn same(&self, other: &Self) -> bool {
-        for field in 0..FIELDS as usize {
+        for field in 0..WIDTH {
             if !same_set(self.sets[field], other.sets[field]) {
                 return false;
             }

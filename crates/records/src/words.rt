@@ -2,7 +2,6 @@
 ghost use mathlib.Core.Path.{_≡_};
 ghost use Rattle.std.specs.Options.{Cases};
 ghost use Rattle.records.specs.Words.{word-of};
-
 use super::kinds::Diagram;
 use format::Amount;
 use format::KIND_UNIT;
@@ -48,8 +47,6 @@ impl Diagram {
     pub fn drop_all() -> Diagram
         ensures { λ r. ⌜ word-of r ≡ 0 ⌝ }
     {
-        Diagram::Leaf(Amount {
-            number: 0,
-        })
+        Diagram::Leaf(Amount { number: 0 })
     }
 }

@@ -39,7 +39,7 @@ module _ {X : Type 0} where
       ⊎-elim
       (λ h. let e : min n (length xs) ≡ n = omega arith in ap (λ k. take k xs) e)
       (λ h. let e : min n (length xs) ≡ length xs = omega arith in
-          ap (λ k. take k xs) e ∙ (take-all (length xs) xs (omega arith) ∙ sym (take-all n xs (omega arith))))
+      ap (λ k. take k xs) e ∙ (take-all (length xs) xs (omega arith) ∙ sym (take-all n xs (omega arith))))
       (cases-lt n (length xs))
 
   pub record-at-place : (rs : List X) (n : ℕ) → 0 < n → record-at rs n ≡ nth rs (n - 1)
@@ -94,10 +94,11 @@ module _ {X : Type 0} where
       where
         inside : n < places → ⊥
         inside l = h n l (sym (nth-take (min c numbers-limit) slots n (omega arith)) ∙ e)
+
         outside : places ≤ n → ⊥
         outside l =
             let m : nth (held c slots) n ≡ None =
-                nth-past (held c slots) n (omega (arith, length-take (min c numbers-limit) slots)) in
+            nth-past (held c slots) n (omega (arith, length-take (min c numbers-limit) slots)) in
             let z : _≡_ {A = ℕ} 0 1 = cc in
             omega arith
 
@@ -142,6 +143,7 @@ module _ {X : Type 0} where
     where
       first : Numbered rs m x → m ≡ n
       first p = ⊎-elim (λ q. d m n x p q) (λ q. absurd (a m (p ∙ ap Some (q .1)))) (pushed rs r n x f)
+
       last : (m ≡ length rs + 1) × (x ≡ r) → m ≡ n
       last p = ⊎-elim (λ q. absurd (a n (q ∙ ap Some (p .1)))) (λ q. omega (arith, p .0, q .0)) (pushed rs r n x f)
 
@@ -157,10 +159,10 @@ module _ {X : Type 0} where
         let more = held-more c slots r l h in
         let long : length (held c slots) + 1 ≡ n = omega (arith, length-take (min c numbers-limit) slots) in
         let there : Numbered (held c slots ++ (r ∷ [])) n r =
-            subst (λ m. Numbered (held c slots ++ (r ∷ [])) m r) long (pushed-last (held c slots) r) in
+        subst (λ m. Numbered (held c slots ++ (r ∷ [])) m r) long (pushed-last (held c slots) r) in
         record {
           number = subst (λ rs. Numbered rs n r) (sym more) there;
-          growth = inr (a, refl, more)
+          growth = inr (a, refl, more);
         }
 
     pub distinct-added :

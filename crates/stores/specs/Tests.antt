@@ -28,7 +28,7 @@ contents c s =
     record {
       actions = held (c .actions) (now (s .actions .slots));
       cells = held (c .cells) (now (s .cells .slots));
-      nodes = held (c .nodes) (now (s .nodes .slots))
+      nodes = held (c .nodes) (now (s .nodes .slots));
     }
 
 -- the stores are in the memory that they were in

@@ -3,29 +3,26 @@ ghost use mathlib.Core.Path.{_≡_};
 ghost use Rattle.std.specs.Results.{Cases};
 ghost use Rattle.faults.specs.declared.layers.StoreFault.the-variants.{Full};
 ghost use Rattle.stores.specs.Tests.{contents, OnlyCell, OverDrop, TestMade, TestFull, SameMemory};
-
 use super::counts::Counts;
 use super::counts::Guard;
-use records::Action;
-use records::Cell;
-use records::Diagram;
-use records::Node;
-use records::ActionRecord;
-use records::CellRecord;
-use records::NodeRecord;
 use super::stores::Stores;
 use faults::StoreFault;
 use format::Amount;
 use format::Setting;
+use records::Action;
+use records::ActionRecord;
+use records::Cell;
+use records::CellRecord;
+use records::Diagram;
+use records::Node;
+use records::NodeRecord;
 use weights::WeightKind;
 
 // The kind's weight one.
 fn one<K: WeightKind>() -> Amount
     ensures { λ r. ⌜ r .number ≡ K·WeightKind .ops .one ⌝ }
 {
-    Amount {
-        number: K::one(),
-    }
+    Amount { number: K::one() }
 }
 
 // The cell of an action of weight one, with nothing after it.
@@ -35,9 +32,7 @@ fn only_cell<K: WeightKind>(action: Amount) -> Cell
     Cell {
         action,
         weight: one::<K>(),
-        rest: Amount {
-            number: 0,
-        },
+        rest: Amount { number: 0 },
     }
 }
 
@@ -54,7 +49,11 @@ fn over_drop(test: Setting, cell: Amount) -> Node
 
 impl Stores<'_> {
     // Enters the records of the diagram of a test, as far as there is room.
-    fn add_test<K: WeightKind>(&mut self, counts: &mut Counts, test: Setting) -> Result<Diagram, StoreFault>
+    fn add_test<K: WeightKind>(
+        &mut self,
+        counts: &mut Counts,
+        test: Setting,
+    ) -> Result<Diagram, StoreFault>
         ensures answer { λ r. ⌜ Cases r (λ d. TestMade (K·WeightKind .ops .one) test (now (counts .entry)) (contents (now (counts .entry)) (now (self .entry))) (now (counts .exit)) (contents (now (counts .exit)) (now (self .exit))) d) (λ f. (f ≡ Full) × TestFull (K·WeightKind .ops .one) test (now (counts .entry)) (now (self .entry))) ⌝ }
         ensures stays { λ _. ⌜ contents (now (counts .entry)) (now (self .exit)) ≡ contents (now (counts .entry)) (now (self .entry)) ⌝ }
         ensures lent { λ _. ⌜ SameMemory (now (self .entry)) (now (self .exit)) ⌝ }
@@ -66,7 +65,11 @@ impl Stores<'_> {
     }
 
     // The diagram of a test: its word, with exactly its records added, or nothing added at all.
-    pub fn test<K: WeightKind>(&mut self, counts: &mut Counts, test: Setting) -> Result<Diagram, StoreFault>
+    pub fn test<K: WeightKind>(
+        &mut self,
+        counts: &mut Counts,
+        test: Setting,
+    ) -> Result<Diagram, StoreFault>
         ensures answer { λ r. ⌜ Cases r (λ d. TestMade (K·WeightKind .ops .one) test (now (counts .entry)) (contents (now (counts .entry)) (now (self .entry))) (now (counts .exit)) (contents (now (counts .exit)) (now (self .exit))) d) (λ f. (f ≡ Full) × TestFull (K·WeightKind .ops .one) test (now (counts .entry)) (now (self .entry)) × (now (counts .exit) ≡ now (counts .entry))) ⌝ }
         ensures stays { λ _. ⌜ contents (now (counts .entry)) (now (self .exit)) ≡ contents (now (counts .entry)) (now (self .entry)) ⌝ }
         ensures lent { λ _. ⌜ SameMemory (now (self .entry)) (now (self .exit)) ⌝ }

@@ -34,7 +34,11 @@ impl Drop for Guard<'_> {
     fn drop(self)
         ensures { λ _. ⌜ now (self .exit .0) ≡ cond (self .entry .kept) (now (self .entry .counts)) (self .entry .saved) ⌝ }
     {
-        let Guard { counts, saved, kept } = self;
+        let Guard {
+            counts,
+            saved,
+            kept,
+        } = self;
         if !kept {
             *counts = saved;
         }

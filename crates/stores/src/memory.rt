@@ -2,13 +2,15 @@
 ghost use Rattle.std.specs.Orderings.{Decides};
 ghost use Rattle.std.specs.Results.{Cases};
 ghost use Rattle.stores.specs.Memory.{Between, AllFit, Unfit};
-
 use faults::StoreFault;
 
 // At most so many actions, cells, nodes and table words.
 pub const ACTIONS_LIMIT: usize = 4_096;
+
 pub const CELLS_LIMIT: usize = 16_384;
+
 pub const NODES_LIMIT: usize = 16_384;
+
 pub const TABLE_LIMIT: usize = 65_536;
 
 // How many records and words the memories have room for.

@@ -3,7 +3,6 @@ ghost use mathlib.Core.Path.{_≡_};
 ghost use Rattle.std.specs.Results.{Cases};
 ghost use Rattle.faults.specs.declared.layers.StoreFault.the-variants.{NotHeld};
 ghost use Rattle.records.specs.Words.{word-of, Held};
-
 use super::counts::Counts;
 use faults::StoreFault;
 use records::Diagram;

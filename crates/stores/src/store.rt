@@ -9,14 +9,13 @@ ghost use Rattle.std.specs.Results.{Cases};
 ghost use Rattle.std.specs.declared.option.Option.the-variants.{Some};
 ghost use Rattle.faults.specs.declared.layers.StoreFault.the-variants.{Full};
 ghost use Rattle.stores.specs.Numbers.{record-at, held, room, numbers-limit, Distinct, Entered, Refused};
-
-use records::Record;
 use faults::StoreFault;
 use format::Amount;
-use format::FIELD_UNIT;
+use format::VALUE_END;
+use records::Record;
 
 // A word can number this many records.
-const NUMBERS_LIMIT: u32 = FIELD_UNIT - 1;
+const NUMBERS_LIMIT: u32 = VALUE_END - 1;
 
 // The records are in the first slots, as many as a count says that is kept elsewhere.
 #[derive(Drop)]

@@ -1,8 +1,8 @@
 // The three stores together, and the first construction over them.
+use super::store::Store;
 use records::Action;
 use records::Cell;
 use records::Node;
-use super::store::Store;
 
 #[derive(Drop)]
 pub struct Stores<'a> {

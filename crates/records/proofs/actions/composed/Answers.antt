@@ -11,9 +11,10 @@ loop-field-again c =
     let a = c .args .first .now in
     let b = c .args .second .now in
     let i = c .loop-field .field in
-    let zs = c .loop-field .sets in
-    (length-set zs i (c .last-set .result) ∙ c .loop-field .inv .0,
-    joined-more last-set (a .sets) (b .sets) None None None zs i (c .last-set .result) (c .loop-field .inv .0 ∙ sym (a .whole)) (omega (arith, a .whole)) (c .last-set .ensures) (c .loop-field .inv .1))
+    let zs = c .loop-field .sets in (
+      length-set zs i (c .last-set .result) ∙ c .loop-field .inv .0,
+      joined-more last-set (a .sets) (b .sets) None None None zs i (c .last-set .result) (c .loop-field .inv .0 ∙ sym (a .whole)) (omega (arith, a .whole)) (c .last-set .ensures) (c .loop-field .inv .1),
+    )
 
 pub returns : need.returns
 returns c =

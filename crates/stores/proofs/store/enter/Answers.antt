@@ -13,7 +13,7 @@ returns-in-Some g c =
           (c .in-Some .ensures tt .1)
           (c .number-at .ensures);
       stays = refl;
-      distinct = λ d. d
+      distinct = λ d. d;
     }
 
 pub returns : need.returns
@@ -26,5 +26,5 @@ returns g c =
     record {
       answer = added-answer count slots entry _ _ absent (c .add .result) (e .added) (e .counted) (e .written);
       stays = added-stays count slots entry (c .add .last .count) (c .add .last .slots) absent (c .add .result) (e .added) (e .written);
-      distinct = added-distinct count slots entry (c .add .last .count) (c .add .last .slots) absent (c .add .result) (e .added) (e .counted) (e .written)
+      distinct = added-distinct count slots entry (c .add .last .count) (c .add .last .slots) absent (c .add .result) (e .added) (e .counted) (e .written);
     }

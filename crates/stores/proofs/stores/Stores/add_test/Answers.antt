@@ -19,8 +19,8 @@ returns-in-Break-action g c =
             nodes-lender = refl;
             actions-size = h .size;
             cells-size = refl;
-            nodes-size = refl
-          }
+            nodes-size = refl;
+          };
     }
 
 pub returns-in-Break-cell : need.returns-in-Break-cell
@@ -40,8 +40,8 @@ returns-in-Break-cell g c =
             nodes-lender = refl;
             actions-size = h .size;
             cells-size = k .size;
-            nodes-size = refl
-          }
+            nodes-size = refl;
+          };
     }
 
 pub returns-in-Break-node : need.returns-in-Break-node
@@ -62,8 +62,8 @@ returns-in-Break-node g c =
             nodes-lender = l .lender;
             actions-size = h .size;
             cells-size = k .size;
-            nodes-size = l .size
-          }
+            nodes-size = l .size;
+          };
     }
 
 pub returns : need.returns
@@ -86,7 +86,7 @@ returns g c =
             node-over-cell = c .over-drop .ensures;
             node-number = c .in-Continue-node .node;
             node-entered = l .answer;
-            word = refl
+            word = refl;
           };
       stays = contents-alike _ _ (h .stays) (k .stays) (l .stays);
       lent =
@@ -96,6 +96,6 @@ returns g c =
             nodes-lender = l .lender;
             actions-size = h .size;
             cells-size = k .size;
-            nodes-size = l .size
-          }
+            nodes-size = l .size;
+          };
     }

@@ -12,7 +12,7 @@ returns-in-Break-diagram g c =
       answer =
           (h .answer .0, full-at (g .K·WeightKind .ops .one) (c .args .test) (c .args .self .now) (c .add-test .last .self) _ _ (c .over-guard .ensures .counts) (h .answer .1), search needs);
       stays = stays-at (g .K·WeightKind .ops .one) (c .args .test) (c .args .self .now) (c .add-test .last .self) _ _ (c .over-guard .ensures .counts) (h .stays);
-      lent = h .lent
+      lent = h .lent;
     }
 
 pub returns : need.returns
@@ -22,5 +22,5 @@ returns g c =
       answer =
           made-at (g .K·WeightKind .ops .one) (c .args .test) (c .args .self .now) (c .add-test .last .self) _ _ (c .over-guard .ensures .counts) (c .add-test .last .counts) _ (c .in-Continue-diagram .diagram) (search needs) (h .answer);
       stays = stays-at (g .K·WeightKind .ops .one) (c .args .test) (c .args .self .now) (c .add-test .last .self) _ _ (c .over-guard .ensures .counts) (h .stays);
-      lent = h .lent
+      lent = h .lent;
     }

@@ -1,0 +1,3 @@
+// The worked cases, run as tests: each is proved to be safe and to end, and then run.
+#[cfg(test)]
+mod words;

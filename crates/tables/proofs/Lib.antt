@@ -1,0 +1,5 @@
+pub mod Parts
+pub mod Checks
+pub mod Reached
+pub mod Scans
+pub mod Rows
