@@ -58,23 +58,18 @@ mutual
   sum-runs (Sum.one-chain c) fs t h = let x = chain-runs c None fs t h in (None, x .0, x .1, x .2, x .3)
   sum-runs (Sum.union {ss} {ts} {p} {q} s c) fs t h =
       let x = sum-runs s fs t h in
-      let y = chain-runs c (Some p) fs (x .2) h in (
-        Some p,
-        y .0,
-        y .1,
+      let y = chain-runs c (Some p) fs (x .2) h in
+      (Some p, y .0, y .1,
         then _ _ ss (Mark Plus ∷ ts) _ (x .3) (ap (λ u. runs (parse Operand (Some u) None fs (x .2)) ts) (x .4) ∙ y .2),
-        ap (Policy.Union p) (y .3),
-      )
+        ap (Policy.Union p) (y .3))
 
   pub chain-runs : {ss : List Symbol} {p : Policy} → Chain ss p → (l : Option Policy) (fs : List Opened) (t : Policy) → Settled fs → (e : Option Policy) × (r : Policy) × (runs (parse Operand l None fs t) ss ≡ Some (parse Operator l e fs r)) × (chained e r ≡ p)
   chain-runs (Chain.one-step {ss} {p} s) l fs t h = (None, p, step-runs s l None fs t h, refl)
   chain-runs (Chain.sequence {ss} {ts} {p} {q} c s) l fs t h =
-      let x = chain-runs c l fs t h in (
-        Some p,
-        q,
+      let x = chain-runs c l fs t h in
+      (Some p, q,
         then _ _ ss (Mark Semicolon ∷ ts) _ (x .2) (ap (λ u. runs (parse Operand l (Some u) fs (x .1)) ts) (x .3) ∙ step-runs s l (Some p) fs (x .1) h),
-        refl,
-      )
+        refl)
 
   pub step-runs : {ss : List Symbol} {p : Policy} → Step ss p → (l e : Option Policy) (fs : List Opened) (t : Policy) → Settled fs → runs (parse Operand l e fs t) ss ≡ Some (parse Operator l e fs p)
   step-runs (Step.one-atom {ss} {p} a) l e fs t h = atom-runs a l e fs t ∙ ap Some (settled-completes fs h l e p)

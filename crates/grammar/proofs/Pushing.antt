@@ -159,12 +159,10 @@ module _ {room : ℕ} {was : List ℕ} {ss : List Symbol} {m : Machine} {is : Li
       written-is = omega (arith, h .wrote .count, ap length (words-grow a g ready-now), length-append (words-of g) (extra a g))
 
       pub possible : Possible a (record { mode = m .mode; level = m .level; stack = m .stack; depth = m .depth; needed = count; written = m .written }) is
-      possible = (
-        g,
-        record { mode = h .outline .mode; level = h .outline .level; stacked = h .outline .stacked; tall = h .outline .tall; within = h .outline .within },
-        ready-now,
-        omega (arith, written-is, reads-needs next-reads, needed-push ss s, counted, h .count, fits, h .enough),
-      )
+      possible =
+          (g, record { mode = h .outline .mode; level = h .outline .level; stacked = h .outline .stacked; tall = h .outline .tall; within = h .outline .within },
+            ready-now,
+            omega (arith, written-is, reads-needs next-reads, needed-push ss s, counted, h .count, fits, h .enough))
 
       pub stands : (next : Machine) (then : List ℕ) → Performs a (record { mode = m .mode; level = m .level; stack = m .stack; depth = m .depth; needed = count; written = m .written }) is next then → Stands room was (ss ++ s ∷ []) next then
       stands next then p =

@@ -4,14 +4,15 @@ ghost use Rattle.format.specs.Policy.{Policy};
 ghost use Rattle.format.specs.Words.{value-end};
 ghost use Rattle.grammar.specs.Trees.{first, later, relation, value, legal, decision};
 ghost use Rattle.grammar.specs.Outlines.{Decides-act};
-use super::machine::Action;
-use super::machine::Mode;
+
 use format::Amount;
 use format::FIELDS;
 use format::PolicyWord;
 use format::Setting;
 use tokens::Mark;
 use tokens::Symbol;
+use super::machine::Action;
+use super::machine::Mode;
 
 fn at_operand(symbol: Symbol) -> Option<Action>
     ensures { λ r. ⌜ Decides-act (first symbol) r ⌝ }
@@ -31,8 +32,7 @@ fn at_operand(symbol: Symbol) -> Option<Action>
         Symbol::Mark(mark) => match mark {
             Mark::Not => Some(Action::Negate),
             Mark::Open => Some(Action::Open),
-            Mark::Plus | Mark::Semicolon | Mark::Star | Mark::Close | Mark::Equals | Mark::Assign =>
-                None,
+            Mark::Plus | Mark::Semicolon | Mark::Star | Mark::Close | Mark::Equals | Mark::Assign => None,
         },
     }
 }
@@ -47,7 +47,13 @@ fn at_operator(bracketed: bool, symbol: Symbol) -> Option<Action>
         Mark::Plus => Some(Action::Sum),
         Mark::Semicolon => Some(Action::Chain),
         Mark::Star => Some(Action::Star),
-        Mark::Close => { if bracketed { Some(Action::Close) } else { None } }
+        Mark::Close => {
+            if bracketed {
+                Some(Action::Close)
+            } else {
+                None
+            }
+        }
         Mark::Not | Mark::Open | Mark::Equals | Mark::Assign => None,
     }
 }

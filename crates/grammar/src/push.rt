@@ -6,13 +6,14 @@ ghost use Rattle.tokens.specs.declared.tokens.Symbol.{Symbol as Sym};
 ghost use Rattle.grammar.specs.Outlines.{opens};
 ghost use Rattle.grammar.specs.Sentences.{needs};
 ghost use Rattle.grammar.specs.Standing.{Stands, Pushed, Reserved};
-use super::decide::decide;
-use super::machine::Machine;
-use super::steps::perform;
+
 use faults::GrammarFault;
 use format::NESTING_LIMIT;
 use tokens::Mark;
 use tokens::Symbol;
+use super::decide::decide;
+use super::machine::Machine;
+use super::steps::perform;
 
 // Whether a symbol opens what must be finished.
 fn nests(symbol: Symbol) -> bool
@@ -21,8 +22,7 @@ fn nests(symbol: Symbol) -> bool
     match symbol {
         Symbol::Mark(mark) => match mark {
             Mark::Not | Mark::Open => true,
-            Mark::Plus | Mark::Semicolon | Mark::Star | Mark::Close | Mark::Equals | Mark::Assign =>
-                false,
+            Mark::Plus | Mark::Semicolon | Mark::Star | Mark::Close | Mark::Equals | Mark::Assign => false,
         },
         Symbol::Field(_) | Symbol::Number(_) | Symbol::Drop | Symbol::Pass | Symbol::Cost => false,
     }
@@ -42,13 +42,7 @@ fn words_for(symbol: Symbol) -> usize
 }
 
 // The words needed after a symbol.
-fn reserve(
-    depth: usize,
-    count: usize,
-    room: usize,
-    symbol: Symbol,
-    place: usize,
-) -> Result<usize, GrammarFault>
+fn reserve(depth: usize, count: usize, room: usize, symbol: Symbol, place: usize) -> Result<usize, GrammarFault>
     requires { ⌜ count ≤ room ⌝ }
     ensures { λ r. ⌜ Reserved depth count room symbol place r ⌝ }
 {
@@ -64,13 +58,7 @@ fn reserve(
     Ok(count + words)
 }
 
-pub fn push(
-    m: &mut Machine,
-    out: &mut [u32],
-    room: usize,
-    symbol: Symbol,
-    place: usize,
-) -> Result<(), GrammarFault>
+pub fn push(m: &mut Machine, out: &mut [u32], room: usize, symbol: Symbol, place: usize) -> Result<(), GrammarFault>
     requires { ⌜ ((was : List ℕ) × (ss : List Sym) × Stands room was ss (now m) (now out)) ⌝ }
     ensures { λ r. ⌜ ((was : List ℕ) (ss : List Sym) → Stands room was ss (now (m .entry)) (now (out .entry)) → Pushed room was ss symbol place r (now (m .exit)) (now (out .exit))) ⌝ }
 {

@@ -6,17 +6,18 @@ ghost use lib.ListN.{length};
 ghost use Rattle.tokens.specs.declared.tokens.Symbol.{Symbol as Sym};
 ghost use Rattle.grammar.specs.Reading.{Answers, room-in};
 ghost use Rattle.grammar.specs.Standing.{Stands, Finished, final};
+
+use faults::GrammarFault;
+use faults::GrammarFromToken;
+use format::NESTING_LIMIT;
+use format::WORDS_LIMIT;
+use tokens::Lexer;
 use super::machine::Frame;
 use super::machine::Level;
 use super::machine::Machine;
 use super::machine::Mode;
 use super::push::push;
 use super::words::end_sum;
-use faults::GrammarFault;
-use faults::GrammarFromToken;
-use format::NESTING_LIMIT;
-use format::WORDS_LIMIT;
-use tokens::Lexer;
 
 fn begin() -> Machine
     ensures { λ r. ⌜ ((was : List ℕ) (room : ℕ) → room ≤ length was → Stands room was [] r was) ⌝ }
@@ -40,8 +41,7 @@ fn may_end(mode: Mode, depth: usize) -> bool
 {
     match mode {
         Mode::Operator => depth == 0,
-        Mode::Operand | Mode::Relation(_) | Mode::Tested(_) | Mode::Assigned(_) | Mode::Price =>
-            false,
+        Mode::Operand | Mode::Relation(_) | Mode::Tested(_) | Mode::Assigned(_) | Mode::Price => false,
     }
 }
 

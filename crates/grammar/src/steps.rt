@@ -10,6 +10,8 @@ ghost use Rattle.format.specs.PolicyWords.{bits-of};
 ghost use Rattle.grammar.specs.declared.machine.Mode.the-variants.{Operand as AtOperand, Operator};
 ghost use Rattle.grammar.specs.Trees.{Act, operand, negate, opening, starring, chaining, adding, closing, Opened, rest};
 ghost use Rattle.grammar.specs.Outlines.{Appended, Stacked, frame-level, not-words, Decides-act, Possible, Performs};
+
+use format::PolicyWord;
 use super::machine::Action;
 use super::machine::Frame;
 use super::machine::Level;
@@ -19,7 +21,6 @@ use super::words::emit;
 use super::words::end_chain;
 use super::words::end_sum;
 use super::words::settle;
-use format::PolicyWord;
 
 const NONE_WAITS: Level = Level {
     sum: false,

@@ -6,9 +6,10 @@ ghost use mathlib.Core.Path.{_≡_};
 ghost use Rattle.format.specs.PolicyWords.{bits-of};
 ghost use Rattle.grammar.specs.Trees.{Opened, rest};
 ghost use Rattle.grammar.specs.Outlines.{Appended, chain-words, level-words, not-words, negates, Stacked};
+
+use format::PolicyWord;
 use super::machine::Frame;
 use super::machine::Level;
-use format::PolicyWord;
 
 // Writes a word, and says where the next one goes.
 pub fn emit(out: &mut [u32], at: usize, word: PolicyWord) -> usize
@@ -24,11 +25,7 @@ pub fn end_chain(out: &mut [u32], at: usize, waits: bool) -> usize
     requires { ⌜ at + length (chain-words waits) ≤ length (now out) ⌝ }
     ensures { λ r. ⌜ Appended (now (out .entry)) at (now (out .exit)) r (chain-words waits) ⌝ }
 {
-    if waits {
-        emit(out, at, PolicyWord::Sequence)
-    } else {
-        at
-    }
+    if waits { emit(out, at, PolicyWord::Sequence) } else { at }
 }
 
 // Ends a sum, its last chain first.
@@ -37,11 +34,7 @@ pub fn end_sum(out: &mut [u32], at: usize, level: Level) -> usize
     ensures { λ r. ⌜ Appended (now (out .entry)) at (now (out .exit)) r (level-words level) ⌝ }
 {
     let end = end_chain(out, at, level.chain);
-    if level.sum {
-        emit(out, end, PolicyWord::Union)
-    } else {
-        end
-    }
+    if level.sum { emit(out, end, PolicyWord::Union) } else { end }
 }
 
 fn is_negation(frame: Frame) -> bool

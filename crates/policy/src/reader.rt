@@ -1,5 +1,6 @@
 // Policy text to policy words.
 ghost use Rattle.policy.specs.Reading.{Read, Scanned};
+
 use faults::GrammarFault;
 use format::TEXT_LIMIT;
 use grammar::parse;

@@ -11,6 +11,7 @@ ghost use Rattle.frames.specs.Frames.{FrameValues, frame-words};
 ghost use Rattle.tables.specs.Rows.{Row, LegalRows, table-words};
 ghost use Rattle.tables.specs.Scans.{applied as applied-to, sends, weight-in, least, above, below, values-of};
 ghost use Rattle.tables.specs.Forwards.{Written, Refused};
+
 use super::SET;
 use super::WEIGHT;
 use super::check::CheckedTable;

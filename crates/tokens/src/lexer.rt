@@ -7,11 +7,12 @@ ghost use Rattle.std.specs.Options.{Cases};
 ghost use Rattle.std.specs.shelf.Lists.{leading};
 ghost use Rattle.std.specs.declared.option.Option.the-variants.{Some, None};
 ghost use Rattle.tokens.specs.Lexing.{belongs-to, mark-of, says, front, Starts, Next};
+
+use faults::TokenFault;
 use super::tokens::Class;
 use super::tokens::Mark;
 use super::tokens::Placed;
 use super::tokens::Token;
-use faults::TokenFault;
 
 // Goes through a text from its start.
 #[derive(Drop)]

@@ -4,10 +4,11 @@ ghost use Rattle.std.specs.Orderings.{Decides};
 ghost use Rattle.std.specs.shelf.Text.{sameBytes};
 ghost use Rattle.tokens.specs.Lexing.{says};
 ghost use Rattle.tokens.specs.Symbols.{field-named, symbol-named, number-of, judged};
+
+use faults::TokenFault;
 use super::tokens::Placed;
 use super::tokens::Symbol;
 use super::tokens::Token;
-use faults::TokenFault;
 
 // A number has at most this many digits.
 const DIGITS_LIMIT: usize = 8;

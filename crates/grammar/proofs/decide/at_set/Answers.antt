@@ -9,9 +9,10 @@ use Rattle.grammar.proofs.decide.at_set.Needs as need
 
 pub returns-in-Some : need.returns-in-Some
 returns-in-Some c =
-    let same = c .in-Some .ensures tt .some in (
+    let same = c .in-Some .ensures tt .some in
+    (
       Policy.Set (c .args .field) (c .in-Number .number),
       ap (value (legal (c .args .field)) (Policy.Set (c .args .field))) (c .in-Number .is)
-          ∙ legal-decided (c .args .field) (c .in-Number .number) (Policy.Set (c .args .field)) (omega arith) (omega arith),
+      ∙ legal-decided (c .args .field) (c .in-Number .number) (Policy.Set (c .args .field)) (omega arith) (omega arith),
       same-setting 3 (same .0) (same .1),
     )

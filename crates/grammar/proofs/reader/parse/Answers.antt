@@ -32,7 +32,8 @@ returns-in-Break-symbol c =
 pub loop-placed-again : need.loop-placed-again
 loop-placed-again c =
     let inv = c .loop-placed .inv in
-    let next = found (c .loop-placed .lexer .at) (c .next .last .self .at) (Some (c .in-Some .placed)) (inv .0) (c .in-Some .is) (c .in-Continue-placed .ensures tt .next) in (
+    let next = found (c .loop-placed .lexer .at) (c .next .last .self .at) (Some (c .in-Some .placed)) (inv .0) (c .in-Some .is) (c .in-Continue-placed .ensures tt .next) in
+    (
       c .next .ensures .text ∙ inv .0,
       (inv .1 .0 ++ c .in-Continue-symbol .symbol ∷ [], Lexes.more (inv .1 .1) (symbol-found _ _ (c .in-Some .placed) next (c .in-Continue-symbol .ensures tt)), c .in-Continue-push .ensures tt _ _ (inv .1 .2)),
     )

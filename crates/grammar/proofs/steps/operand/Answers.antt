@@ -21,9 +21,10 @@ complete-requires c κs =
 
 pub returns : need.returns
 returns c = λ p e g o r.
-    let done = c .complete .ensures .settled (g .frames) (o .stacked) in (
+    let done = c .complete .ensures .settled (g .frames) (o .stacked) in
+    (
       completed-outline (g .frames) p (c .complete .last .m) (c .complete .ensures .mode) (c .complete .ensures .level ∙ o .level) (c .complete .ensures .stack) (o .tall)
-          (omega (arith, stacked-depth (g .frames) _ _ (o .stacked), o .within)) (done .0),
+      (omega (arith, stacked-depth (g .frames) _ _ (o .stacked), o .within)) (done .0),
       subst (λ x. Appended (c .args .out .now) (c .args .m .now .written) (c .complete .last .out) (c .complete .last .m .written) (x ++ not-words (g .frames))) (sym e) (appended-then (c .emit-m .ensures) (done .1)),
       c .complete .ensures .needed,
     )

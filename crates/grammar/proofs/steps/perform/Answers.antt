@@ -44,7 +44,7 @@ pub returns-in-Open : need.returns-in-Open
 returns-in-Open c = λ a d.
     performs-at {b = opening} (known a (c .in-Open .is) d) (λ g o r. (
       nested-outline (group (g .left) (g .early)) None None _ o (r .1) (c .nest-in-Open .ensures .mode) refl
-          (c .nest-in-Open .ensures .stack ∙ ap (λ l. set (c .args .m .now .stack) (c .args .m .now .depth) (Group l)) (o .level)) (c .nest-in-Open .ensures .depth),
+      (c .nest-in-Open .ensures .stack ∙ ap (λ l. set (c .args .m .now .stack) (c .args .m .now .depth) (Group l)) (o .level)) (c .nest-in-Open .ensures .depth),
       unchanged _ _ _ (c .nest-in-Open .ensures .written),
       c .nest-in-Open .ensures .needed,
     ))

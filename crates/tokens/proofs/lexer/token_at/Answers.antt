@@ -25,7 +25,7 @@ returns-then-belongs-2 c = (digits-start _ _ (c .pre) (sym (c .if-belongs .ensur
 pub returns-then-assigns : need.returns-then-assigns
 returns-then-assigns c = (
   let two : 2 ≡ c .args .place + 2 - c .args .place = omega arith in
-      subst (λ n. Starts (drop (c .args .place) (c .args .text .now)) (mark Assign) n) two (assign-starts _ _ (c .pre) (c .if-b-eq58 .taken) (sym (c .if-assigns .ensures tt))),
+  subst (λ n. Starts (drop (c .args .place) (c .args .text .now)) (mark Assign) n) two (assign-starts _ _ (c .pre) (c .if-b-eq58 .taken) (sym (c .if-assigns .ensures tt))),
   omega arith,
 )
 
@@ -35,8 +35,8 @@ returns-then-b-eq58 c = colon-alone _ _ (c .pre) (c .if-b-eq58 .taken) (sym (c .
 pub returns-in-Some : need.returns-in-Some
 returns-in-Some c = (
   let one : 1 ≡ c .args .place + 1 - c .args .place = omega arith in
-      subst (λ n. Starts (drop (c .args .place) (c .args .text .now)) (mark (c .in-Some .mark)) n) one
-      (mark-starts _ _ (c .pre) _ (sym (c .if-belongs .ensures tt)) (sym (c .if-belongs-2 .ensures tt)) (ne-eqb _ _ (c .if-b-eq58 .left)) (sym (c .in-Some .ensures tt))),
+  subst (λ n. Starts (drop (c .args .place) (c .args .text .now)) (mark (c .in-Some .mark)) n) one
+  (mark-starts _ _ (c .pre) _ (sym (c .if-belongs .ensures tt)) (sym (c .if-belongs-2 .ensures tt)) (ne-eqb _ _ (c .if-b-eq58 .left)) (sym (c .in-Some .ensures tt))),
   omega arith,
 )
 

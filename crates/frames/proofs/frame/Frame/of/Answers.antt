@@ -8,9 +8,9 @@ use Rattle.frames.proofs.frame.Frame.of.Needs as need
 
 pub loop-place-again : need.loop-place-again
 loop-place-again c =
-    let l : c .loop-place .place < length (c .loop-place .values) = omega arith in (
-      length-set _ _ _ ∙ c .loop-place .inv .0,
-      right-more (c .args .words) (c .loop-place .values) (c .loop-place .place) _ l (c .loop-place .inv .1) (c .in-Continue-values .ensures tt),
+    let l : c .loop-place .place < length (c .loop-place .values) = omega arith in
+    ( length-set _ _ _ ∙ c .loop-place .inv .0
+    , right-more (c .args .words) (c .loop-place .values) (c .loop-place .place) _ l (c .loop-place .inv .1) (c .in-Continue-values .ensures tt)
     )
 
 pub returns : need.returns

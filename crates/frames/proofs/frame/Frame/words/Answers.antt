@@ -5,4 +5,4 @@ use Rattle.frames.proofs.frame.Frame.words.Needs as need
 pub returns : need.returns
 returns c =
     words-from-places (c .loop-field .words) (c .args .self .now .values) (omega arith) λ k l.
-    c .loop-field .inv .2 k (omega arith)
+        c .loop-field .inv .2 k (omega arith)
