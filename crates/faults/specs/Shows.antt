@@ -11,6 +11,8 @@ use Rattle.faults.specs.declared.layers.CheckFault.{CheckFault}
 use Rattle.faults.specs.declared.layers.CheckFault.the-variants.{LongPolicy, BadWord, BadOperands, NoPredicate, TooMany}
 use Rattle.faults.specs.declared.layers.CompileFault.{CompileFault}
 use Rattle.faults.specs.declared.layers.CompileFault.the-variants.{Text, Check}
+use Rattle.faults.specs.declared.layers.StoreFault.{StoreFault}
+use Rattle.faults.specs.declared.layers.StoreFault.the-variants.{Full, NotHeld, BadMemory}
 use Rattle.faults.specs.declared.layers.TableFault.{TableFault}
 use Rattle.faults.specs.declared.layers.TableFault.the-variants.{Illegal}
 use Rattle.faults.specs.declared.layers.FrameFault.{FrameFault}
@@ -48,3 +50,8 @@ abbrev pub frame-shown : FrameFault → Shown
 frame-shown frame.Length = shown 12 6 fields
 frame-shown (frame.BadWord p) = shown 12 6 p
 frame-shown frame.NoRoom = shown 13 6 0
+
+abbrev pub store-shown : StoreFault → Shown
+store-shown Full = shown 9 4 0
+store-shown (NotHeld p) = shown 10 4 p
+store-shown (BadMemory p) = shown 14 4 p

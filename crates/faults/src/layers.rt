@@ -41,6 +41,17 @@ pub enum CheckFault {
     TooMany(usize),
 }
 
+// Why the stores refuse.
+#[derive(Clone, Copy)]
+pub enum StoreFault {
+    // The records held and requested pass a store's size.
+    Full,
+    // The operand at this place is no word of a diagram in the stores.
+    NotHeld(usize),
+    // The memory of this number has a size outside its range.
+    BadMemory(usize),
+}
+
 // Why a policy text cannot be used: the fault of whichever layer refused it.
 #[derive(Clone, Copy)]
 pub enum CompileFault {

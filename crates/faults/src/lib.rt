@@ -3,7 +3,7 @@ ghost use mathlib.Core.Path.{_≡_};
 ghost use Rattle.std.specs.Of.Vec.{vec-items};
 ghost use Rattle.std.specs.Vec.{made};
 ghost use Rattle.faults.specs.Lines.{refused-line};
-ghost use Rattle.faults.specs.Shows.{shown, token-shown, grammar-shown, check-shown, compile-shown, table-shown, frame-shown};
+ghost use Rattle.faults.specs.Shows.{shown, token-shown, grammar-shown, check-shown, compile-shown, store-shown, table-shown, frame-shown};
 
 mod layers;
 
@@ -17,6 +17,7 @@ pub use layers::CompileFromGrammar;
 pub use layers::FrameFault;
 pub use layers::GrammarFault;
 pub use layers::GrammarFromToken;
+pub use layers::StoreFault;
 pub use layers::TableFault;
 pub use layers::TokenFault;
 use numerals::push_decimal;
@@ -92,6 +93,19 @@ impl CompileFault {
         match self {
             CompileFault::Text(fault) => fault.shown(),
             CompileFault::Check(fault) => fault.shown(),
+        }
+    }
+}
+
+impl StoreFault {
+    pub fn shown(self) -> Shown
+        ensures { λ r. ⌜ r ≡ store-shown self ⌝ }
+    {
+        let layer = 4;
+        match self {
+            StoreFault::Full => Shown::of(9, layer, 0),
+            StoreFault::NotHeld(place) => Shown::of(10, layer, place),
+            StoreFault::BadMemory(place) => Shown::of(14, layer, place),
         }
     }
 }

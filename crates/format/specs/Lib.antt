@@ -3,3 +3,4 @@ pub mod Limits
 pub mod Words
 pub mod Policy
 pub mod PolicyWords
+pub mod Actions
