@@ -1,0 +1,3 @@
+pub mod Decide
+pub mod Leaves
+pub mod Diagrams
