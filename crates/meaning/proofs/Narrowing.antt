@@ -245,7 +245,7 @@ module _ {o : Ops} (L : Laws o) where
   pub weigh-weight : (d : Diagram) (s t : Frame) → Weighted o d → Weight o (weigh o d s t)
   weigh-weight d s t h = gather-weight L (emits-additive s t) (reach d s) (reach-weights o d s h)
 
-  narrow-cells-weights : (p : Facts) (l : List Cell) → Weights o l → Weights o (map (narrow-cell p) l)
+  pub narrow-cells-weights : (p : Facts) (l : List Cell) → Weights o l → Weights o (map (narrow-cell p) l)
   narrow-cells-weights p l h = each-of-map (λ c. Weight o (c .1)) (λ c. Weight o (c .1)) (narrow-cell p) (λ c k. k) l h
 
   pub weighted-narrows : (d : Diagram) (p : Facts) → Weighted o d → Weighted o (narrows o d p)
