@@ -1,3 +1,4 @@
 pub mod Decide
 pub mod Leaves
 pub mod Diagrams
+pub mod Constructions
