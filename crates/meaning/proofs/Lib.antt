@@ -1,3 +1,4 @@
 pub mod Gathering
 pub mod Narrowing
 pub mod Making
+pub mod Splitting

@@ -14,7 +14,7 @@ use Rattle.meaning.specs.Decide.{choice, decide, Before, equal-lists, equal-se
 use Rattle.meaning.specs.Leaves.{Action, Frame, Cell, Each, gather, Ascending, collect, ActionFormed, CellFormed, LeafFormed}
 use Rattle.meaning.specs.Diagrams.{Diagram, Leaf, Node, equal-cells, equal-diagrams, weigh, Facts, known, or-else, also, forget, narrow-action, narrow-cell, narrows, narrow, make, Tests, SetsOf, Sets, After, Unlike, NodeFormed, Formed, extent}
 use Rattle.meaning.proofs.Gathering.{choice-yes, choice-no, choice-both, each-map, each-of-map, Additive, Weights, NoZeros, Telling, value, join-not-zero, chosen-additive, gather-collect, collect-each, collect-ascending, collect-weights, leaves-differ, equal-actions}
-use Rattle.meaning.proofs.Narrowing.{none-some, known-there, known-only, known-else, forget-none, Consistent, narrow-narrow-action, getD-narrow-action, length-narrow-action, Agrees, agrees-known, Narrowing, yes-side, no-side, merged, kept, narrowing, narrows-leaf, tests-map, sets-map, also-second, tests-narrows, sets-narrows, extent-narrows, Weighted, formed-weighted, weigh-yes, weigh-no, gather-map, weighted-narrows, narrow-cells-weights, weigh-narrows}
+use Rattle.meaning.proofs.Narrowing.{none-some, known-there, known-only, known-else, forget-none, Consistent, narrow-narrow-action, getD-narrow-action, length-narrow-action, Agrees, agrees-known, Narrowing, yes-side, no-side, merged, kept, narrowing, narrows-leaf, tests-map, tests-both, cells-all, sets-map, sets-both, also-second, tests-narrows, sets-narrows, extent-narrows, Weighted, formed-weighted, weigh-yes, weigh-no, gather-map, weighted-narrows, narrow-cells-weights, weigh-narrows}
 
 -- leaves in order, without zeros, are equal if they give equal weights to each action
 pub record Tidy (o : Ops) (l : List Cell) : Type 0 where
@@ -306,20 +306,15 @@ module _ {o : Ops} (L : Laws o) where
       both : (g m : ℕ) → (p g ≡ None) × (f < g) → also p K g ≡ None
       both g m k = also-second p K g (k .0) ∙ known-apart g (k .1)
       pair-tests : (d : Diagram) → Tests (λ g m. p g ≡ None) d → Tests (λ g m. f < g) d → Tests (λ g m. also p K g ≡ None) d
-      pair-tests (Leaf l) a b = tt
-      pair-tests (Node g m v w) a b = (both g m (a .0, b .0), pair-tests v (a .1) (b .1), pair-tests w (a .2) (b .2))
+      pair-tests d a b = tests-map _ _ both d (tests-both _ _ d a b)
       one-set : (g m : ℕ) → (p g ≡ Some m → ⊥) → Unlike f n g m → also p K g ≡ Some m → ⊥
       one-set g m a b e = cases (p g) refl e
         where
           cases : (x : Option ℕ) → p g ≡ x → or-else x (K g) ≡ Some m → ⊥
           cases None q r = b (known-only f n g m r .0) (known-only f n g m r .1)
           cases (Some j) q r = a (q ∙ r)
-      pair-cells : (l : List Cell) → Each (λ c. SetsOf (λ g m. p g ≡ Some m → ⊥) (c .0)) l → Each (λ c. SetsOf (Unlike f n) (c .0)) l → Each (λ c. SetsOf (λ g m. also p K g ≡ Some m → ⊥) (c .0)) l
-      pair-cells [] a b = tt
-      pair-cells (c ∷ l) a b = ((λ g m e. one-set g m (a .0 g m e) (b .0 g m e)), pair-cells l (a .1) (b .1))
       pair-sets : (d : Diagram) → Sets (λ g m. p g ≡ Some m → ⊥) d → Sets (Unlike f n) d → Sets (λ g m. also p K g ≡ Some m → ⊥) d
-      pair-sets (Leaf l) a b = pair-cells l a b
-      pair-sets (Node g m v w) a b = (pair-sets v (a .0) (b .0), pair-sets w (a .1) (b .1))
+      pair-sets d a b = sets-map _ _ (λ g m k. one-set g m (k .0) (k .1)) d (sets-both _ _ d a b)
       go : Narrowing o p f n y z → (Tests (λ g m. also p K g ≡ None) y → Sets (λ g m. also p K g ≡ Some m → ⊥) y → narrows o y (also p K) ≡ y) → narrows o z p ≡ z → narrows o (Node f n y z) p ≡ Node f n y z
       go (yes-side e r) iy iz = none-some n (sym (t .0) ∙ e)
       go (no-side m e k r) iy iz = none-some m (sym (t .0) ∙ e)
@@ -409,15 +404,8 @@ module _ {o : Ops} (L : Laws o) where
                 value-legal = q;
                 yes-greater-fields = tests-map _ _ greater (narrow o y f n) (tests-narrows (λ g m. f ≤ g) o y (known f n) t);
                 no-greater-tests = u;
-                yes-narrowed = sets-map _ _ (λ g m k i j. k .1 (ap (known f n) i ∙ known-there f n ∙ ap {B = Option ℕ} Some (sym j))) (narrow o y f n) (sets-narrows (λ g m. Unit {0}) L y (known f n) (no-sets y));
+                yes-narrowed = sets-map _ _ (λ g m k i j. k .1 (ap (known f n) i ∙ known-there f n ∙ ap {B = Option ℕ} Some (sym j))) (narrow o y f n) (sets-narrows (λ g m. Unit {0}) L y (known f n) (cells-all _ (λ c g m e. tt) y));
                 sides-differ = λ r′. e (sym r′) }
-            where
-              no-cells : (l : List Cell) → Each (λ c. SetsOf (λ g m. Unit {0}) (c .0)) l
-              no-cells [] = tt
-              no-cells (c ∷ l) = ((λ g m k. tt), no-cells l)
-              no-sets : (d : Diagram) → Sets (λ g m. Unit {0}) d
-              no-sets (Leaf l) = no-cells l
-              no-sets (Node g m v w) = (no-sets v, no-sets w)
 
   pub make-extent : (f n : ℕ) (y z : Diagram) → extent (make o f n y z) ≤ 1 + (extent y + extent z)
   make-extent f n y z = go (making f n y z) (extent-narrows o y (known f n))

@@ -13,7 +13,7 @@ use Rattle.format.specs.Actions.{apply, replaced, LegalSet, LegalSets}
 use Rattle.weights.specs.Weights.{Ops, Weight, Laws}
 use Rattle.meaning.specs.Decide.{choice, decide, Before, equal-lists, equal-sets}
 use Rattle.meaning.specs.Leaves.{Action, Frame, Cell, Each, gather, Ascending, put, enter, collect, ActionFormed, CellFormed, LeafFormed}
-use Rattle.meaning.specs.Diagrams.{Diagram, Leaf, Node, equal-cells, equal-diagrams, reach, emits, weigh, Facts, known, or-else, also, forget, narrow-action, narrow-cell, branch, narrows, narrow, make, Tests, SetsOf, Sets, After, Unlike, NodeFormed, Formed, extent}
+use Rattle.meaning.specs.Diagrams.{Diagram, Leaf, Node, equal-cells, equal-diagrams, reach, emits, weigh, Facts, known, or-else, also, forget, narrow-action, narrow-cell, branch, narrows, narrow, make, Tests, SetsOf, Cells, Sets, After, Unlike, NodeFormed, Formed, extent}
 use Rattle.meaning.proofs.Gathering.{choice-yes, choice-no, choice-both, each-map, each-append, each-of-map, Additive, Weights, NoZeros, Telling, value, zero-right, zero-zero, join-not-zero, chosen-additive, gather-weight, gather-collect, collect-each, collect-ascending, collect-weights, leaves-differ, equal-actions}
 
 -- facts
@@ -146,9 +146,32 @@ pub tests-map : (P Q : ℕ → ℕ → Type 0) → ((f n : ℕ) → P f n → Q 
 tests-map P Q h (Leaf l) t = tt
 tests-map P Q h (Node f n y z) t = (h f n (t .0), tests-map P Q h y (t .1), tests-map P Q h z (t .2))
 
+pub tests-both : (P Q : ℕ → ℕ → Type 0) (d : Diagram) → Tests P d → Tests Q d → Tests (λ f n. P f n × Q f n) d
+tests-both P Q (Leaf l) t u = tt
+tests-both P Q (Node f n y z) t u = ((t .0, u .0), tests-both P Q y (t .1) (u .1), tests-both P Q z (t .2) (u .2))
+
+pub cells-map : (P Q : Cell → Type 0) → ((c : Cell) → P c → Q c) → (d : Diagram) → Cells P d → Cells Q d
+cells-map P Q h (Leaf l) t = each-map h l t
+cells-map P Q h (Node f n y z) t = (cells-map P Q h y (t .0), cells-map P Q h z (t .1))
+
+pub cells-all : (P : Cell → Type 0) → ((c : Cell) → P c) → (d : Diagram) → Cells P d
+cells-all P h (Leaf []) = tt
+cells-all P h (Leaf (c ∷ l)) = (h c, cells-all P h (Leaf l))
+cells-all P h (Node f n y z) = (cells-all P h y, cells-all P h z)
+
+pub each-both : {X : Type 0} (P Q : X → Type 0) (xs : List X) → Each P xs → Each Q xs → Each (λ x. P x × Q x) xs
+each-both P Q [] t u = tt
+each-both P Q (x ∷ xs) t u = ((t .0, u .0), each-both P Q xs (t .1) (u .1))
+
+pub cells-both : (P Q : Cell → Type 0) (d : Diagram) → Cells P d → Cells Q d → Cells (λ c. P c × Q c) d
+cells-both P Q (Leaf l) t u = each-both P Q l t u
+cells-both P Q (Node f n y z) t u = (cells-both P Q y (t .0) (u .0), cells-both P Q z (t .1) (u .1))
+
 pub sets-map : (P Q : ℕ → ℕ → Type 0) → ((f n : ℕ) → P f n → Q f n) → (d : Diagram) → Sets P d → Sets Q d
-sets-map P Q h (Leaf l) t = each-map (λ c k f n e. h f n (k f n e)) l t
-sets-map P Q h (Node f n y z) t = (sets-map P Q h y (t .0), sets-map P Q h z (t .1))
+sets-map P Q h d t = cells-map _ _ (λ c k f n e. h f n (k f n e)) d t
+
+pub sets-both : (P Q : ℕ → ℕ → Type 0) (d : Diagram) → Sets P d → Sets Q d → Sets (λ f n. P f n × Q f n) d
+sets-both P Q d t u = cells-map _ _ (λ c k f n e. (k .0 f n e, k .1 f n e)) d (cells-both _ _ d t u)
 
 also-none : (p q : Facts) (f : ℕ) → also p q f ≡ None → p f ≡ None
 also-none p q f e = go (p f) refl e
@@ -216,8 +239,7 @@ extent-narrows o (Node f n y z) p =
 
 -- every leaf holds weights of the kind
 abbrev pub Weighted : Ops → Diagram → Type 0
-Weighted o (Leaf l) = Weights o l
-Weighted o (Node f n y z) = Weighted o y × Weighted o z
+Weighted o = Cells (λ c. Weight o (c .1))
 
 pub formed-weighted : (o : Ops) (d : Diagram) → Formed o d → Weighted o d
 formed-weighted o (Leaf l) h = each-map (λ c k. k .weight) l (h .cells)

@@ -114,10 +114,14 @@ Tests P (Node f n y z) = P f n × Tests P y × Tests P z
 abbrev pub SetsOf : (ℕ → ℕ → Type 0) → Action → Type 0
 SetsOf P a = (f n : ℕ) → getD a f None ≡ Some n → P f n
 
+-- every cell of the diagram satisfies Q
+abbrev pub Cells : (Cell → Type 0) → Diagram → Type 0
+Cells Q (Leaf l) = Each Q l
+Cells Q (Node f n y z) = Cells Q y × Cells Q z
+
 -- every value that an action of the diagram sets satisfies P
 abbrev pub Sets : (ℕ → ℕ → Type 0) → Diagram → Type 0
-Sets P (Leaf l) = Each (λ c. SetsOf P (c .0)) l
-Sets P (Node f n y z) = Sets P y × Sets P z
+Sets P = Cells (λ c. SetsOf P (c .0))
 
 -- the test (g, m) comes after the test (f, n): by field, then by value
 abbrev pub After : ℕ → ℕ → ℕ → ℕ → Type 0
