@@ -2,3 +2,4 @@ pub mod Gathering
 pub mod Narrowing
 pub mod Making
 pub mod Splitting
+pub mod Canonicity

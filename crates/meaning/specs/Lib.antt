@@ -2,3 +2,4 @@ pub mod Decide
 pub mod Leaves
 pub mod Diagrams
 pub mod Constructions
+pub mod Frames
