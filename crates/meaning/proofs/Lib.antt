@@ -3,3 +3,4 @@ pub mod Narrowing
 pub mod Making
 pub mod Splitting
 pub mod Canonicity
+pub mod Canonical
