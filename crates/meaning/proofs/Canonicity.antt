@@ -205,7 +205,7 @@ module _ {o : Ops} (L : Laws o) where
             T .near (λ g m. g ≡ f → m ≡ n) (λ g l i. ap (λ (j : ℕ). getD v′ j 0) i ∙ v′-there)
               (tests-map _ _ (λ g m k i. absurd (apart g k i)) (at o d f n) t) (tests-map _ _ (λ g m k i. absurd (apart g k i)) (at o e f n) u) f in-fields refl
 
-  extent-positive : (d : Diagram) → 1 ≤ extent d
+  pub extent-positive : (d : Diagram) → 1 ≤ extent d
   extent-positive (Leaf l) = omega arith
   extent-positive (Node f n y z) = omega arith
 

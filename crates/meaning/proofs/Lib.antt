@@ -4,3 +4,4 @@ pub mod Making
 pub mod Splitting
 pub mod Canonicity
 pub mod Canonical
+pub mod Joining
