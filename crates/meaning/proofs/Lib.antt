@@ -5,3 +5,4 @@ pub mod Splitting
 pub mod Canonicity
 pub mod Canonical
 pub mod Joining
+pub mod Sequencing

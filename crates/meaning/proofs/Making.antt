@@ -237,7 +237,7 @@ module _ {o : Ops} (L : Laws o) where
       ap (λ (d : Diagram). narrows o d q) (narrows-leaf o p l) ∙ narrows-leaf o q (collect o (map (narrow-cell p) l)) ∙ ap {B = Diagram} Leaf (collect-narrow-narrow L p q l k h) ∙ sym (narrows-leaf o (also p q) l)
   narrows-narrows (Node f n y z) p q h k = node-twice f n y z (λ p′ q′ k′. narrows-narrows y p′ q′ (h .0) k′) (λ p′ q′ k′. narrows-narrows z p′ q′ (h .1) k′) p q k
 
-  cell-narrow : (p : Facts) (c : Cell) → ActionFormed (c .0) → ActionFormed (narrow-action p (c .0))
+  pub cell-narrow : (p : Facts) (c : Cell) → ActionFormed (c .0) → ActionFormed (narrow-action p (c .0))
   cell-narrow p c h =
       record {
         all-fields = length-narrow-action p (c .0) ∙ h .all-fields;
