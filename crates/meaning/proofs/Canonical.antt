@@ -14,7 +14,8 @@ use Rattle.format.specs.Actions.{apply, replaced, LegalSet, LegalSets}
 use Rattle.weights.specs.Weights.{Ops, Weight, Laws}
 use Rattle.meaning.specs.Leaves.{Action, Frame, Cell, Each, ActionFormed}
 use Rattle.meaning.specs.Diagrams.{Diagram, Leaf, Node, equal-diagrams, weigh, Tests, SetsOf, Cells, Sets, Formed, extent}
-use Rattle.meaning.specs.Frames.{InRange, In, Spare, Named, ToldApart}
+use Rattle.weights.specs.Order.{In}
+use Rattle.meaning.specs.Frames.{InRange, Spare, Named, ToldApart}
 use Rattle.meaning.proofs.Gathering.{each-map}
 use Rattle.meaning.proofs.Narrowing.{none-some, tests-map, tests-both, cells-map, sets-map, sets-both}
 use Rattle.meaning.proofs.Splitting.{formed-tests-legal}

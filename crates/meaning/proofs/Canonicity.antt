@@ -16,7 +16,8 @@ use Rattle.meaning.specs.Decide.{choice, decide, equal-lists}
 use Rattle.meaning.specs.Leaves.{Action, Frame, Cell, Each, gather, ActionFormed, LeafFormed}
 use Rattle.meaning.specs.Diagrams.{Diagram, Leaf, Node, equal-diagrams, emits, weigh, narrow, Tests, SetsOf, Sets, After, Unlike, Formed, extent}
 use Rattle.meaning.specs.Constructions.{at, off}
-use Rattle.meaning.specs.Frames.{InRange, In, Spare, Named, ToldApart}
+use Rattle.weights.specs.Order.{In}
+use Rattle.walks.proofs.Walks.{has, without, without-length, without-rest}
 use Rattle.meaning.proofs.Gathering.{choice-yes, choice-no, each-map, Among, among-each, equal-actions, value, Telling, leaves-differ}
 use Rattle.meaning.proofs.Narrowing.{tests-map, tests-both, sets-map, sets-both, Weighted, formed-weighted}
 use Rattle.meaning.proofs.Making.{leaf-tidy}
@@ -240,76 +241,27 @@ module _ {o : Ops} (L : Laws o) where
 
 -- values that are not named
 
-without : ℕ → List ℕ → List ℕ
-without m [] = []
-without m (x ∷ xs) = choice (decide x m) (without m xs) (x ∷ without m xs)
-
-without-shorter : (m : ℕ) (xs : List ℕ) → length (without m xs) ≤ length xs
-unfolding without
-without-shorter m [] = omega arith
-without-shorter m (x ∷ xs) = go (decide x m) (without-shorter m xs)
-  where
-    go : (d : Dec (x ≡ m)) → length (without m xs) ≤ length xs → length (choice d (without m xs) (x ∷ without m xs)) ≤ suc (length xs)
-    go (yes e) h = omega arith
-    go (no e) h = omega arith
-
-without-strictly : (m : ℕ) (xs : List ℕ) → In m xs → length (without m xs) < length xs
-unfolding without
-without-strictly m [] i = absurd i
-without-strictly m (x ∷ xs) i = go (decide x m) i (without-shorter m xs) (without-strictly m xs)
-  where
-    go : (d : Dec (x ≡ m)) → (x ≡ m) ⊎ In m xs → length (without m xs) ≤ length xs → (In m xs → length (without m xs) < length xs) → length (choice d (without m xs) (x ∷ without m xs)) < suc (length xs)
-    go (yes e) j h k = omega arith
-    go (no e) (inl j) h k = absurd (e j)
-    go (no e) (inr j) h k = more (k j)
-      where
-        more : length (without m xs) < length xs → suc (length (without m xs)) < suc (length xs)
-        more z = omega arith
-
-without-others : (m v : ℕ) (xs : List ℕ) → (v ≡ m → ⊥) → In v xs → In v (without m xs)
-unfolding without
-without-others m v [] h i = i
-without-others m v (x ∷ xs) h i = go (decide x m) i (without-others m v xs h)
-  where
-    go : (d : Dec (x ≡ m)) → (x ≡ v) ⊎ In v xs → (In v xs → In v (without m xs)) → In v (choice d (without m xs) (x ∷ without m xs))
-    go (yes e) (inl j) k = absurd (h (sym j ∙ e))
-    go (yes e) (inr j) k = k j
-    go (no e) (inl j) k = inl j
-    go (no e) (inr j) k = inr (k j)
-
-is-in : (v : ℕ) (xs : List ℕ) → Dec (In v xs)
-is-in v [] = no (λ z. z)
-is-in v (x ∷ xs) = go (decide x v) (is-in v xs)
-  where
-    go : Dec (x ≡ v) → Dec (In v xs) → Dec ((x ≡ v) ⊎ In v xs)
-    go (yes e) d = yes (inl e)
-    go (no e) (yes i) = yes (inr i)
-    go (no e) (no i) = no (λ z. neither z)
-      where
-        neither : (x ≡ v) ⊎ In v xs → ⊥
-        neither (inl j) = e j
-        neither (inr j) = i j
-
 pub spare : (N : ℕ) (xs : List ℕ) → length xs < N → (v : ℕ) × (v < N) × (In v xs → ⊥)
 spare zero xs h = absurd (none h)
   where
     none : length xs < 0 → ⊥
     none z = omega arith
-spare (suc N) xs h = go (is-in N xs) (spare N (without N xs))
+spare (suc N) xs h = go (has decide xs N) (spare N)
   where
-    go : Dec (In N xs) → (length (without N xs) < N → (v : ℕ) × (v < N) × (In v (without N xs) → ⊥)) → (v : ℕ) × (v < suc N) × (In v xs → ⊥)
+    go : Dec (In N xs) → ((ys : List ℕ) → length ys < N → (v : ℕ) × (v < N) × (In v ys → ⊥)) → (v : ℕ) × (v < suc N) × (In v xs → ⊥)
     go (no i) k = (N, omega arith, i)
-    go (yes i) k = found (k (less (without-strictly N xs i)))
+    go (yes i) k = found (k (without N xs i) (less (without-length N xs i)))
       where
-        less : length (without N xs) < length xs → length (without N xs) < N
+        less : suc (length (without N xs i)) ≡ length xs → length (without N xs i) < N
         less z = omega arith
-        found : (v : ℕ) × (v < N) × (In v (without N xs) → ⊥) → (v : ℕ) × (v < suc N) × (In v xs → ⊥)
-        found (v, l, n) = (v, wider l, λ j. n (without-others N v xs (λ e. apart l e) j))
+        found : (v : ℕ) × (v < N) × (In v (without N xs i) → ⊥) → (v : ℕ) × (v < suc N) × (In v xs → ⊥)
+        found (v, l, n) = (v, wider l, λ j. neither l (without-rest N xs i v j))
           where
             wider : v < N → v < suc N
             wider z = omega arith
-            apart : v < N → v ≡ N → ⊥
-            apart z e = omega arith
+            neither : v < N → (v ≡ N) ⊎ In v (without N xs i) → ⊥
+            neither z (inl e) = omega arith
+            neither z (inr m) = n m
 
 -- a list made from a function of the index
 abbrev pub listed : ℕ → (ℕ → ℕ) → List ℕ

@@ -1,11 +1,12 @@
 -- Frames in range, and values among names.
 use mathlib.Core.Path.{_≡_}
-use mathlib.Core.List.{List, [], _∷_}
-use mathlib.Core.Logic.{_⊎_, _≢_}
+use mathlib.Core.List.{List}
+use mathlib.Core.Logic.{_≢_}
 use Prim.Native.Nat.{ℕ, _<_}
 use lib.ListN.{length, getD}
 use Rattle.format.specs.Fields.{fields, range, LegalValue}
 use Rattle.weights.specs.Weights.{Ops}
+use Rattle.weights.specs.Order.{In}
 use Rattle.meaning.specs.Leaves.{Frame}
 use Rattle.meaning.specs.Diagrams.{Diagram, Tests, Sets, weigh}
 
@@ -13,11 +14,6 @@ use Rattle.meaning.specs.Diagrams.{Diagram, Tests, Sets, weigh}
 pub record InRange (s : Frame) : Type 0 where
   pub all-fields : length s ≡ fields
   pub legal : (f : ℕ) → f < fields → LegalValue f (getD s f 0)
-
--- v stands in the list
-abbrev pub In : ℕ → List ℕ → Type 0
-In v [] = ⊥
-In v (x ∷ xs) = (x ≡ v) ⊎ In v xs
 
 -- for each field fewer names than the field has values
 abbrev pub Spare : (ℕ → List ℕ) → Type 0

@@ -3,3 +3,4 @@ pub mod Leaves
 pub mod Diagrams
 pub mod Constructions
 pub mod Frames
+pub mod Meanings
