@@ -1,5 +1,6 @@
 -- What each fault is to a person: its number, its layer and its place.
 use Prim.Native.Nat.{ℕ}
+use Rattle.format.specs.Fields.{fields}
 use Rattle.format.specs.Limits.{text-limit, words-limit}
 use Rattle.faults.specs.declared.Shown.{Shown}
 use Rattle.faults.specs.declared.layers.TokenFault.{TokenFault}
@@ -10,6 +11,10 @@ use Rattle.faults.specs.declared.layers.CheckFault.{CheckFault}
 use Rattle.faults.specs.declared.layers.CheckFault.the-variants.{LongPolicy, BadWord, BadOperands, NoPredicate, TooMany}
 use Rattle.faults.specs.declared.layers.CompileFault.{CompileFault}
 use Rattle.faults.specs.declared.layers.CompileFault.the-variants.{Text, Check}
+use Rattle.faults.specs.declared.layers.TableFault.{TableFault}
+use Rattle.faults.specs.declared.layers.TableFault.the-variants.{Illegal}
+use Rattle.faults.specs.declared.layers.FrameFault.{FrameFault}
+use Rattle.faults.specs.declared.layers.FrameFault.the-variants as frame
 
 abbrev shown : ℕ → ℕ → ℕ → Shown
 shown n l p = record { number = n; layer = l; place = p }
@@ -35,3 +40,11 @@ check-shown (TooMany p) = shown 4 3 p
 abbrev pub compile-shown : CompileFault → Shown
 compile-shown (Text f) = grammar-shown f
 compile-shown (Check f) = check-shown f
+
+abbrev pub table-shown : TableFault → Shown
+table-shown (Illegal p) = shown 15 5 p
+
+abbrev pub frame-shown : FrameFault → Shown
+frame-shown frame.Length = shown 12 6 fields
+frame-shown (frame.BadWord p) = shown 12 6 p
+frame-shown frame.NoRoom = shown 13 6 0

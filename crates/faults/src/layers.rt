@@ -48,6 +48,23 @@ pub enum CompileFault {
     Check(CheckFault),
 }
 
+// Why words are no legal table: no legal table begins with the words up to this one, or they end here too early.
+#[derive(Clone, Copy)]
+pub enum TableFault {
+    Illegal(usize),
+}
+
+// Why a frame cannot be forwarded.
+#[derive(Clone, Copy)]
+pub enum FrameFault {
+    // The frame has not one word for each field.
+    Length,
+    // The word at this place is not its field's.
+    BadWord(usize),
+    // The emitted frames do not fit the memory.
+    NoRoom,
+}
+
 pub impl From<TokenFault> for GrammarFault as GrammarFromToken {
     ghost converts = { λ e r. r ≡ Token e };
 

@@ -1,17 +1,20 @@
 // Every refusal by its layer, and what a person is shown of it.
 ghost use mathlib.Core.Path.{_≡_};
-ghost use Rattle.faults.specs.Shows.{token-shown, grammar-shown, check-shown, compile-shown};
+ghost use Rattle.faults.specs.Shows.{token-shown, grammar-shown, check-shown, compile-shown, table-shown, frame-shown};
 
 mod layers;
 
+use format::FIELDS;
 use format::TEXT_LIMIT;
 use format::WORDS_LIMIT;
 pub use layers::CheckFault;
 pub use layers::CompileFault;
 pub use layers::CompileFromCheck;
 pub use layers::CompileFromGrammar;
+pub use layers::FrameFault;
 pub use layers::GrammarFault;
 pub use layers::GrammarFromToken;
+pub use layers::TableFault;
 pub use layers::TokenFault;
 
 // What a person is shown of a refusal: its number, the layer that refused, and the place.
@@ -115,6 +118,45 @@ impl CompileFault {
         match self {
             CompileFault::Text(fault) => fault.shown(),
             CompileFault::Check(fault) => fault.shown(),
+        }
+    }
+}
+
+impl TableFault {
+    pub fn shown(self) -> Shown
+        ensures { λ r. ⌜ r ≡ table-shown self ⌝ }
+    {
+        match self {
+            TableFault::Illegal(place) => Shown {
+                number: 15,
+                layer: 5,
+                place,
+            },
+        }
+    }
+}
+
+impl FrameFault {
+    pub fn shown(self) -> Shown
+        ensures { λ r. ⌜ r ≡ frame-shown self ⌝ }
+    {
+        let layer = 6;
+        match self {
+            FrameFault::Length => Shown {
+                number: 12,
+                layer,
+                place: FIELDS as usize,
+            },
+            FrameFault::BadWord(place) => Shown {
+                number: 12,
+                layer,
+                place,
+            },
+            FrameFault::NoRoom => Shown {
+                number: 13,
+                layer,
+                place: 0,
+            },
         }
     }
 }

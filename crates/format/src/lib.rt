@@ -27,9 +27,11 @@ pub const COST_LIMIT: u32 = 65_535;
 // A word's value is below this.
 pub const VALUE_END: u32 = 0x100_0000;
 
-const KIND_UNIT: u32 = 0x1000_0000;
+// A word of kind 1, field 0 and value 0.
+pub const KIND_UNIT: u32 = 0x1000_0000;
 
-const FIELD_UNIT: u32 = VALUE_END;
+// A word of kind 0, field 1 and value 0.
+pub const FIELD_UNIT: u32 = VALUE_END;
 
 // A word by its parts.
 #[derive(Clone, Copy)]
