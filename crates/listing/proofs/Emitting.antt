@@ -17,7 +17,7 @@ use Rattle.meaning.specs.Leaves.{Action, Frame, Cell, Each, CellFormed, LeafFor
 use Rattle.meaning.specs.Diagrams.{Diagram, Leaf, Node, reach, weigh, Formed, emits as gives}
 use Rattle.meaning.specs.Frames.{InRange}
 use Rattle.listing.specs.Rows.{rows-of, row-of, emission-of, sets-from}
-use Rattle.listing.specs.Tables.{FirstMatch, EmitsWhatTheDiagramGives, reached}
+use Rattle.listing.specs.Tables.{FirstMatch, EmitsWhatTheDiagramGives, DropEmitsNothing, reached, place-of}
 use Rattle.listing.proofs.Leaves.{eqb-yes, eqb-no, first-match}
 use Rattle.listing.proofs.Sets.{replaced-sets}
 
@@ -41,8 +41,8 @@ other-frames (m ∷ s) (n ∷ t) h = go (decide m n) (other-frames s t)
     go (no g) further = ap (λ (b : Bool). b && same s t) (eqb-no m n g)
 
 -- the row that matches first decides
-emits-first : (o : Ops) (rows : List Row) (r : Row) (s t : Frame) → FirstMatch s rows r → emits o rows s t ≡ joins o s t (o .zero) (r .emissions)
-emits-first o rows r s t h =
+emits-first : (o : Ops) (rows : List Row) (i : ℕ) (r : Row) (s t : Frame) → FirstMatch s rows i r → emits o rows s t ≡ joins o s t (o .zero) (r .emissions)
+emits-first o rows i r s t h =
     ap (λ (q : List Row). emits o q s t) (h .is)
       ∙ skip (h .earlier) (h .fail)
       ∙ ap (λ (b : Bool). cond b (joins o s t (o .zero) (r .emissions)) (emits o (h .later) s t)) (h .hold)
@@ -105,9 +105,12 @@ module _ {o : Ops} (L : Laws o) where
 
   pub emits-what-the-diagram-gives : EmitsWhatTheDiagramGives o
   emits-what-the-diagram-gives d s t h r =
-      emits-first o (rows-of d) (row-of (reached d s)) s t (first-match d s)
+      emits-first o (rows-of d) (place-of d s) (row-of (reached d s)) s t (first-match d s)
         ∙ joins-cells s t (r .all-fields) (o .zero) (reach d s) (L .zero-weight) cells
         ∙ L .zero-neutral _ (gather-weight s t (reach d s) cells)
     where
       cells : Each (CellFormed o) (reach d s)
       cells = reach-formed d s h .cells
+
+pub drop-emits-nothing : (o : Ops) → DropEmitsNothing o
+drop-emits-nothing o = record { one-row = refl; nothing = λ s t. refl }

@@ -14,10 +14,16 @@ use Rattle.weights.specs.Weights.{Ops}
 use Rattle.tables.specs.Rows.{Pair, Emission, Row, emission-words, row-words, table-words, LegalPairs, LegalEmission, LegalRow, LegalRows, LegalTable}
 use Rattle.meaning.specs.Leaves.{Cell, Each, CellFormed, LeafFormed, ActionFormed}
 use Rattle.meaning.specs.Diagrams.{Diagram, Leaf, Node, Tests, Formed}
+use Rattle.meaning.specs.Constructions.{drop-diagram}
 use Rattle.listing.specs.Rows.{Placed, behind, leaves-of, row-of, rows-of, emission-of}
-use Rattle.listing.specs.Tables.{Countable, ListsLegally, ShortListsCount}
-use Rattle.listing.proofs.Lists.{all-append, all-both, all-map, all-unmap}
+use Rattle.listing.specs.Tables.{Sized, ListedLegally, ListsLegally, ShortLists}
+use Rattle.listing.proofs.Lists.{all-append, all-imp, all-both, all-map, all-unmap}
 use Rattle.listing.proofs.Sets.{legal-sets}
+
+-- the end word can count the leaves, and a head the cells of each
+record Countable (d : Diagram) : Type 0 where
+  leaves : length (leaves-of d) < value-end
+  cells : All (λ p. length (p .cells) < value-end) (leaves-of d)
 
 tests-all : (P : ℕ → ℕ → Type 0) → ((f n : ℕ) → P f n) → (d : Diagram) → Tests P d
 tests-all P h (Leaf l) = tt
@@ -72,8 +78,20 @@ module _ (o : Ops) where
         countable = subst (λ (n : ℕ). n < value-end) (sym (length-map (leaves-of d) row-of)) (k .leaves);
       }
 
-  pub lists-legally : ListsLegally o
-  lists-legally d h k = (rows-of d, rows-legal d h k, refl)
+  listed-legally : (d : Diagram) → Formed o d → Countable d → ListedLegally o d
+  listed-legally d h k = record { rows = rows-legal d h k; words = (rows-of d, rows-legal d h k, refl) }
+
+  pub lists-legally : (leaves cells : ℕ) → leaves < value-end → cells < value-end → ListsLegally o leaves cells
+  lists-legally leaves cells a b d h k =
+      listed-legally d h
+        (record {
+          leaves = omega (arith, k .leaf-count);
+          cells = all-imp (λ p. length (p .cells) ≤ cells) (λ p. length (p .cells) < value-end) (λ p c. omega arith) (leaves-of d) (k .cell-counts);
+        })
+
+  pub drop-table-legal : LegalTable o (table-words (rows-of drop-diagram))
+  drop-table-legal =
+      lists-legally 1 0 (omega arith) (omega arith) drop-diagram (record { cells = tt; ascending = tt }) (record { leaf-count = refl; cell-counts = (zero-le, tt) }) .words
 
 -- each row and each emission takes a word at least
 long-emissions : (es : List Emission) → length es ≤ length (joined emission-words es)
@@ -90,6 +108,9 @@ rows-length [] = zero-le
 rows-length (r ∷ rows) =
     omega (arith, row-length r, rows-length rows, length-append (row-words r) (joined row-words rows))
 
+table-length : (rows : List Row) → length (table-words rows) ≡ length (joined row-words rows) + 1
+table-length rows = length-append (joined row-words rows) (word 14 0 (length rows) ∷ [])
+
 rows-short : (b : ℕ) (rows : List Row) → length (joined row-words rows) ≤ b → All (λ r. length (r .emissions) < b) rows
 rows-short b [] h = tt
 rows-short b (r ∷ rows) h =
@@ -97,16 +118,23 @@ rows-short b (r ∷ rows) h =
     , rows-short b rows (omega (arith, length-append (row-words r) (joined row-words rows)))
     )
 
-pub short-lists-count : ShortListsCount
+list-length : (d : Diagram) → length (leaves-of d) + 1 ≤ length (table-words (rows-of d))
+list-length d = omega (arith, table-length (rows-of d), rows-length (rows-of d), length-map (leaves-of d) row-of)
+
+short-lists-count : (d : Diagram) → length (table-words (rows-of d)) ≤ value-end → Countable d
 short-lists-count d h =
     record {
-      leaves = omega (arith, total, rows-length (rows-of d), length-map (leaves-of d) row-of);
+      leaves = omega (arith, list-length d);
       cells =
           all-unmap row-of (λ p. length (p .cells) < value-end) (λ r. length (r .emissions) < value-end)
             (λ p k. subst (λ (n : ℕ). n < value-end) (length-map (p .cells) emission-of) k)
             (leaves-of d)
-            (rows-short value-end (rows-of d) (omega (arith, total)));
+            (rows-short value-end (rows-of d) (omega (arith, table-length (rows-of d))));
     }
-  where
-    total : length (table-words (rows-of d)) ≡ length (joined row-words (rows-of d)) + 1
-    total = length-append (joined row-words (rows-of d)) (word 14 0 (length (rows-of d)) ∷ [])
+
+pub short-lists : (o : Ops) (words most : ℕ) → most + 1 ≡ words → words ≤ value-end → ShortLists o words most
+short-lists o words most a b =
+    record {
+      few = λ d h. omega (arith, list-length d);
+      legal = λ d h k. listed-legally o d h (short-lists-count d (omega arith));
+    }

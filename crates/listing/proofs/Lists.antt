@@ -11,6 +11,10 @@ module _ {X : Type 0} where
   all-of P f [] = tt
   all-of P f (x ∷ xs) = (f x, all-of P f xs)
 
+  pub all-imp : (P Q : X → Type 0) → ((x : X) → P x → Q x) → (xs : List X) → All P xs → All Q xs
+  all-imp P Q f [] h = tt
+  all-imp P Q f (x ∷ xs) h = (f x (h .0), all-imp P Q f xs (h .1))
+
   pub all-both : (P Q R : X → Type 0) → ((x : X) → P x → Q x → R x) → (xs : List X) → All P xs → All Q xs → All R xs
   all-both P Q R f [] h k = tt
   all-both P Q R f (x ∷ xs) h k = (f x (h .0) (k .0), all-both P Q R f xs (h .1) (k .1))
