@@ -17,7 +17,7 @@ use Rattle.meaning.specs.Leaves.{Action, Frame, Cell, Each, CellFormed, LeafFor
 use Rattle.meaning.specs.Diagrams.{Diagram, Leaf, Node, reach, weigh, Formed, emits as gives}
 use Rattle.meaning.specs.Frames.{InRange}
 use Rattle.listing.specs.Rows.{rows-of, row-of, emission-of, sets-from}
-use Rattle.listing.specs.Tables.{FirstMatch, EmitsWhatTheDiagramGives, DropEmitsNothing, reached, place-of}
+use Rattle.listing.specs.Tables.{FirstMatch, EmitsWhatTheDiagramGives, reached, place-of}
 use Rattle.listing.proofs.Leaves.{eqb-yes, eqb-no, first-match}
 use Rattle.listing.proofs.Sets.{replaced-sets}
 
@@ -44,8 +44,8 @@ other-frames (m ∷ s) (n ∷ t) h = go (decide m n) (other-frames s t)
 emits-first : (o : Ops) (rows : List Row) (i : ℕ) (r : Row) (s t : Frame) → FirstMatch s rows i r → emits o rows s t ≡ joins o s t (o .zero) (r .emissions)
 emits-first o rows i r s t h =
     ap (λ (q : List Row). emits o q s t) (h .is)
-      ∙ skip (h .earlier) (h .fail)
-      ∙ ap (λ (b : Bool). cond b (joins o s t (o .zero) (r .emissions)) (emits o (h .later) s t)) (h .hold)
+    ∙ skip (h .earlier) (h .fail)
+    ∙ ap (λ (b : Bool). cond b (joins o s t (o .zero) (r .emissions)) (emits o (h .later) s t)) (h .hold)
   where
     skip : (qs : List Row) → All (λ q. holds (q .matches) s ≡ false) qs → emits o (qs ++ (r ∷ h .later)) s t ≡ emits o (r ∷ h .later) s t
     skip [] k = refl
@@ -88,8 +88,8 @@ module _ {o : Ops} (L : Laws o) where
   joins-cells s t e a [] w h = sym (join-zero L w)
   joins-cells s t e a (c ∷ l) w h =
       ap (λ (b : ℕ). joins o s t b (map emission-of l)) (joins-cell s t a c (h .0 .action .all-fields ∙ sym e) w)
-        ∙ joins-cells s t e (o .join a (gives o s t (c .0) (c .1))) l (L .join-weight _ _ w given) (h .1)
-        ∙ L .join-associative _ _ _ w given (gather-weight s t l (h .1))
+      ∙ joins-cells s t e (o .join a (gives o s t (c .0) (c .1))) l (L .join-weight _ _ w given) (h .1)
+      ∙ L .join-associative _ _ _ w given (gather-weight s t l (h .1))
     where
       given : Weight o (gives o s t (c .0) (c .1))
       given = gives-weight s t (c .0) (c .1) (h .0 .weight)
@@ -106,11 +106,8 @@ module _ {o : Ops} (L : Laws o) where
   pub emits-what-the-diagram-gives : EmitsWhatTheDiagramGives o
   emits-what-the-diagram-gives d s t h r =
       emits-first o (rows-of d) (place-of d s) (row-of (reached d s)) s t (first-match d s)
-        ∙ joins-cells s t (r .all-fields) (o .zero) (reach d s) (L .zero-weight) cells
-        ∙ L .zero-neutral _ (gather-weight s t (reach d s) cells)
+      ∙ joins-cells s t (r .all-fields) (o .zero) (reach d s) (L .zero-weight) cells
+      ∙ L .zero-neutral _ (gather-weight s t (reach d s) cells)
     where
       cells : Each (CellFormed o) (reach d s)
       cells = reach-formed d s h .cells
-
-pub drop-emits-nothing : (o : Ops) → DropEmitsNothing o
-drop-emits-nothing o = record { one-row = refl; nothing = λ s t. refl }

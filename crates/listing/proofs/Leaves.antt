@@ -15,11 +15,11 @@ use Rattle.listing.specs.Rows.{Placed, behind, leaves-of, row-of, rows-of}
 use Rattle.listing.specs.Tables.{passed, reached, place-of, FirstMatch, FirstMatchIsTheLeafReached}
 use Rattle.listing.proofs.Lists.{all-append, all-of, all-map}
 
-pub is-true : (b : Bool) → T b → b ≡ true
+is-true : (b : Bool) → T b → b ≡ true
 is-true true t = refl
 is-true false t = absurd t
 
-pub is-false : (b : Bool) → (T b → ⊥) → b ≡ false
+is-false : (b : Bool) → (T b → ⊥) → b ≡ false
 is-false true h = absurd (h tt)
 is-false false h = refl
 
@@ -49,11 +49,11 @@ first-yes f n y z s i p e h =
       later = map (behind f n) (h .later) ++ leaves-of z;
       is =
           ap (λ (ps : List Placed). map (behind f n) ps ++ leaves-of z) (h .is)
-            ∙ ap (λ (ps : List Placed). ps ++ leaves-of z) (map-append (behind f n) (h .earlier) (p ∷ h .later))
-            ∙ append-assoc (map (behind f n) (h .earlier)) (behind f n p ∷ map (behind f n) (h .later)) (leaves-of z);
+          ∙ ap (λ (ps : List Placed). ps ++ leaves-of z) (map-append (behind f n) (h .earlier) (p ∷ h .later))
+          ∙ append-assoc (map (behind f n) (h .earlier)) (behind f n p ∷ map (behind f n) (h .later)) (leaves-of z);
       place = length-map (h .earlier) (behind f n) ∙ h .place;
       fail = all-map (behind f n) (λ q. holds (q .way) s ≡ false) (λ q. holds (q .way) s ≡ false) (λ q k. test-yes ∙ k) (h .earlier) (h .fail);
-      hold = test-yes ∙ h .hold
+      hold = test-yes ∙ h .hold;
     }
   where
     test-yes : {b : Bool} → eqb (getD s f 0) n && b ≡ b
@@ -70,18 +70,18 @@ first-no f n y z s i p e h =
       later = h .later;
       is =
           ap (λ (ps : List Placed). map (behind f n) (leaves-of y) ++ ps) (h .is)
-            ∙ sym (append-assoc (map (behind f n) (leaves-of y)) (h .earlier) (p ∷ h .later));
+          ∙ sym (append-assoc (map (behind f n) (leaves-of y)) (h .earlier) (p ∷ h .later));
       place =
           length-append (map (behind f n) (leaves-of y)) (h .earlier)
-            ∙ ap₂ (λ (a b : ℕ). a + b) (length-map (leaves-of y) (behind f n)) (h .place);
+          ∙ ap₂ (λ (a b : ℕ). a + b) (length-map (leaves-of y) (behind f n)) (h .place);
       fail =
           all-append (λ q. holds (q .way) s ≡ false) (map (behind f n) (leaves-of y)) (h .earlier)
-            (all-map (behind f n) (λ q. Unit {0}) (λ q. holds (q .way) s ≡ false)
-              (λ q k. ap (λ (c : Bool). c && holds (q .way) s) (eqb-no (getD s f 0) n e))
-              (leaves-of y)
-              (all-of (λ q. Unit {0}) (λ q. tt) (leaves-of y)))
-            (h .fail);
-      hold = h .hold
+          (all-map (behind f n) (λ q. Unit {0}) (λ q. holds (q .way) s ≡ false)
+          (λ q k. ap (λ (c : Bool). c && holds (q .way) s) (eqb-no (getD s f 0) n e))
+          (leaves-of y)
+          (all-of (λ q. Unit {0}) (λ q. tt) (leaves-of y)))
+          (h .fail);
+      hold = h .hold;
     }
 
 first : (d : Diagram) (s : Frame) → First s (leaves-of d) (place-of d s) (reached d s)
@@ -104,7 +104,7 @@ first-match d s =
       is = ap (map row-of) (found .is) ∙ map-append row-of (found .earlier) (reached d s ∷ found .later);
       place = length-map (found .earlier) row-of ∙ found .place;
       fail = all-map row-of (λ q. holds (q .way) s ≡ false) (λ r. holds (r .matches) s ≡ false) (λ q h. h) (found .earlier) (found .fail);
-      hold = found .hold
+      hold = found .hold;
     }
   where
     found : First s (leaves-of d) (place-of d s) (reached d s)

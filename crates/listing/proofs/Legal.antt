@@ -14,7 +14,6 @@ use Rattle.weights.specs.Weights.{Ops}
 use Rattle.tables.specs.Rows.{Pair, Emission, Row, emission-words, row-words, table-words, LegalPairs, LegalEmission, LegalRow, LegalRows, LegalTable}
 use Rattle.meaning.specs.Leaves.{Cell, Each, CellFormed, LeafFormed, ActionFormed}
 use Rattle.meaning.specs.Diagrams.{Diagram, Leaf, Node, Tests, Formed}
-use Rattle.meaning.specs.Constructions.{drop-diagram}
 use Rattle.listing.specs.Rows.{Placed, behind, leaves-of, row-of, rows-of, emission-of}
 use Rattle.listing.specs.Tables.{Sized, ListedLegally, ListsLegally, ShortLists}
 use Rattle.listing.proofs.Lists.{all-append, all-imp, all-both, all-map, all-unmap}
@@ -37,8 +36,8 @@ module _ (o : Ops) where
         nonzero = h .not-zero;
         sets-legal =
             legal-sets 0 (c .0) (omega (arith, h .action .all-fields))
-              (λ i k. subst (λ (g : ℕ). LegalSet g (getD (c .0) i None)) (sym (zero-add i)) (h .action .legal i k))
-              0 zero-le;
+            (λ i k. subst (λ (g : ℕ). LegalSet g (getD (c .0) i None)) (sym (zero-add i)) (h .action .legal i k))
+            0 zero-le;
       }
 
   emissions-legal : (l : List Cell) → Each (CellFormed o) l → All (LegalEmission o) (map emission-of l)
@@ -53,11 +52,11 @@ module _ (o : Ops) where
   leaves-formed b (Leaf l) h t = ((tt, h), tt)
   leaves-formed b (Node f n y z) h t =
       all-append (PlacedFormed b) (map (behind f n) (leaves-of y)) (leaves-of z)
-        (all-map (behind f n) (PlacedFormed (suc f)) (PlacedFormed b)
-          (λ p k. ((t .0, h .0 .field-exists, h .0 .value-legal, k .0), k .1))
-          (leaves-of y)
-          (leaves-formed (suc f) y (h .1) (h .0 .yes-greater-fields)))
-        (leaves-formed b z (h .2) (t .2))
+      (all-map (behind f n) (PlacedFormed (suc f)) (PlacedFormed b)
+      (λ p k. ((t .0, h .0 .field-exists, h .0 .value-legal, k .0), k .1))
+      (leaves-of y)
+      (leaves-formed (suc f) y (h .1) (h .0 .yes-greater-fields)))
+      (leaves-formed b z (h .2) (t .2))
 
   row-legal : (p : Placed) → PlacedFormed 0 p → length (p .cells) < value-end → LegalRow o (row-of p)
   row-legal p h k =
@@ -72,9 +71,9 @@ module _ (o : Ops) where
       record {
         each =
             all-map row-of (λ p. LegalRow o (row-of p)) (LegalRow o) (λ p l. l) (leaves-of d)
-              (all-both (PlacedFormed 0) (λ p. length (p .cells) < value-end) (λ p. LegalRow o (row-of p)) row-legal (leaves-of d)
-                (leaves-formed 0 d h (tests-all (λ g m. 0 ≤ g) (λ g m. zero-le) d))
-                (k .cells));
+            (all-both (PlacedFormed 0) (λ p. length (p .cells) < value-end) (λ p. LegalRow o (row-of p)) row-legal (leaves-of d)
+            (leaves-formed 0 d h (tests-all (λ g m. 0 ≤ g) (λ g m. zero-le) d))
+            (k .cells));
         countable = subst (λ (n : ℕ). n < value-end) (sym (length-map (leaves-of d) row-of)) (k .leaves);
       }
 
@@ -84,14 +83,10 @@ module _ (o : Ops) where
   pub lists-legally : (leaves cells : ℕ) → leaves < value-end → cells < value-end → ListsLegally o leaves cells
   lists-legally leaves cells a b d h k =
       listed-legally d h
-        (record {
-          leaves = omega (arith, k .leaf-count);
-          cells = all-imp (λ p. length (p .cells) ≤ cells) (λ p. length (p .cells) < value-end) (λ p c. omega arith) (leaves-of d) (k .cell-counts);
-        })
-
-  pub drop-table-legal : LegalTable o (table-words (rows-of drop-diagram))
-  drop-table-legal =
-      lists-legally 1 0 (omega arith) (omega arith) drop-diagram (record { cells = tt; ascending = tt }) (record { leaf-count = refl; cell-counts = (zero-le, tt) }) .words
+      (record {
+        leaves = omega (arith, k .leaf-count);
+        cells = all-imp (λ p. length (p .cells) ≤ cells) (λ p. length (p .cells) < value-end) (λ p c. omega arith) (leaves-of d) (k .cell-counts);
+      })
 
 -- each row and each emission takes a word at least
 long-emissions : (es : List Emission) → length es ≤ length (joined emission-words es)
@@ -113,10 +108,10 @@ table-length rows = length-append (joined row-words rows) (word 14 0 (length row
 
 rows-short : (b : ℕ) (rows : List Row) → length (joined row-words rows) ≤ b → All (λ r. length (r .emissions) < b) rows
 rows-short b [] h = tt
-rows-short b (r ∷ rows) h =
-    ( omega (arith, row-length r, length-append (row-words r) (joined row-words rows))
-    , rows-short b rows (omega (arith, length-append (row-words r) (joined row-words rows)))
-    )
+rows-short b (r ∷ rows) h = (
+  omega (arith, row-length r, length-append (row-words r) (joined row-words rows)),
+  rows-short b rows (omega (arith, length-append (row-words r) (joined row-words rows))),
+)
 
 list-length : (d : Diagram) → length (leaves-of d) + 1 ≤ length (table-words (rows-of d))
 list-length d = omega (arith, table-length (rows-of d), rows-length (rows-of d), length-map (leaves-of d) row-of)
@@ -127,9 +122,9 @@ short-lists-count d h =
       leaves = omega (arith, list-length d);
       cells =
           all-unmap row-of (λ p. length (p .cells) < value-end) (λ r. length (r .emissions) < value-end)
-            (λ p k. subst (λ (n : ℕ). n < value-end) (length-map (p .cells) emission-of) k)
-            (leaves-of d)
-            (rows-short value-end (rows-of d) (omega (arith, table-length (rows-of d))));
+          (λ p k. subst (λ (n : ℕ). n < value-end) (length-map (p .cells) emission-of) k)
+          (leaves-of d)
+          (rows-short value-end (rows-of d) (omega (arith, table-length (rows-of d))));
     }
 
 pub short-lists : (o : Ops) (words most : ℕ) → most + 1 ≡ words → words ≤ value-end → ShortLists o words most

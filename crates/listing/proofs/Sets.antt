@@ -44,9 +44,9 @@ pub legal-sets :
 legal-sets f [] room legal b l = tt
 legal-sets f (None ∷ a) room legal b l =
     legal-sets (suc f) a (omega arith) (λ i k. subst (λ (g : ℕ). LegalSet g (getD a i None)) (shift f i) (legal (suc i) (omega arith))) b (omega arith)
-legal-sets f (Some n ∷ a) room legal b l =
-    ( l
-    , omega arith
-    , subst (λ (g : ℕ). LegalSet g (Some n)) (add-zero f) (legal 0 (omega arith))
-    , legal-sets (suc f) a (omega arith) (λ i k. subst (λ (g : ℕ). LegalSet g (getD a i None)) (shift f i) (legal (suc i) (omega arith))) (suc f) (omega arith)
-    )
+legal-sets f (Some n ∷ a) room legal b l = (
+  l,
+  omega arith,
+  subst (λ (g : ℕ). LegalSet g (Some n)) (add-zero f) (legal 0 (omega arith)),
+  legal-sets (suc f) a (omega arith) (λ i k. subst (λ (g : ℕ). LegalSet g (getD a i None)) (shift f i) (legal (suc i) (omega arith))) (suc f) (omega arith),
+)
