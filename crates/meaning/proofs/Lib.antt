@@ -6,3 +6,4 @@ pub mod Canonicity
 pub mod Canonical
 pub mod Joining
 pub mod Sequencing
+pub mod Simple
