@@ -7,3 +7,4 @@ pub mod Canonical
 pub mod Joining
 pub mod Sequencing
 pub mod Simple
+pub mod Starring
