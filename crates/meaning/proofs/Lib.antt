@@ -8,3 +8,4 @@ pub mod Joining
 pub mod Sequencing
 pub mod Simple
 pub mod Starring
+pub mod Compiling

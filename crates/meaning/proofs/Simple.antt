@@ -101,6 +101,10 @@ apply-set s f n e = apply-one fields s f n e
 
 -- a leaf of one cell
 
+-- the action that keeps every field, with the weight one
+abbrev pub Plain : Ops → Cell → Type 0
+Plain o c = (c .0 ≡ keep-all) × (c .1 ≡ o .one)
+
 module _ {o : Ops} (L : Laws o) where
   pub single-cells : (Q : Cell → Type 0) (a : Action) (w : ℕ) → Q (a, w) → Cells Q (single o a w)
   single-cells Q a w h = choice-both (Each Q) (decide w (o .zero)) [] ((a, w) ∷ []) (λ e. tt) (λ e. (h, tt))
@@ -167,24 +171,18 @@ module _ {o : Ops} (L : Laws o) where
   narrow-none zero p = refl
   narrow-none (suc k) p = ap₂ {C = Action} (λ (u : Option ℕ) (r : Action). u ∷ r) (forget-none (p 0)) (narrow-none k (λ f. p (suc f)))
 
-  pub Plain : Cell → Type 0
-  Plain c = (c .0 ≡ keep-all) × (c .1 ≡ o .one)
-
-  pub plain-closed : Closed o Plain
-  unfolding Plain
+  pub plain-closed : Closed o (Plain o)
   plain-closed =
       record {
         joins = λ a v w h k. (h .0, ap₂ (o .join) (h .1) (k .1) ∙ L .join-idempotent (o .one) (L .one-weight));
         narrows = λ p a w h. (ap (narrow-action p) (h .0) ∙ narrow-none fields p, h .1);
         composes = λ a b v w h k. (ap₂ compose (h .0) (k .0), ap₂ (o .times) (h .1) (k .1) ∙ L .one-neutral-left (o .one) (L .one-weight)) }
 
-  pub plain-single : Cells Plain (pass-diagram o)
-  unfolding Plain
-  plain-single = single-cells Plain keep-all (o .one) (refl, refl)
+  pub plain-single : Cells (Plain o) (pass-diagram o)
+  plain-single = single-cells (Plain o) keep-all (o .one) (refl, refl)
 
   -- a formed leaf of them is drop or pass
-  plain-leaf : (l : List Cell) → LeafFormed o l → Each Plain l → (l ≡ []) ⊎ (Leaf l ≡ pass-diagram o)
-  unfolding Plain
+  plain-leaf : (l : List Cell) → LeafFormed o l → Each (Plain o) l → (l ≡ []) ⊎ (Leaf l ≡ pass-diagram o)
   plain-leaf [] h k = inl refl
   plain-leaf (c ∷ []) h k = inr ((λ i. Leaf ((k .0 .0 i, k .0 .1 i) ∷ [])) ∙ sym pass-is)
   plain-leaf (c ∷ e ∷ l) h k = absurd (before-self keep-all (subst (λ (a : Action). Before keep-all a) (k .1 .0 .0) (subst (λ (a : Action). Before a (e .0)) (k .0 .0) (h .ascending .0 .0))))
@@ -192,7 +190,7 @@ module _ {o : Ops} (L : Laws o) where
   -- r is not d
   pub record Negated (d r : Diagram) : Type 1 where
     pub tests : (P : ℕ → ℕ → Type 0) → Tests P d → Tests P r
-    pub plain : Cells Plain r
+    pub plain : Cells (Plain o) r
     pub formed : Formed o r
     pub weighs : (s t : Frame) → length s ≡ fields → weigh o r s t ≡ choice (decide (weigh o d s s) (o .zero)) (only o s t (o .one)) (o .zero)
 
@@ -212,7 +210,7 @@ module _ {o : Ops} (L : Laws o) where
         formed = drop-is-formed;
         weighs = λ s t l. sym (choice-no (decide (weigh o (pass-diagram o) s s) (o .zero)) (only o s t (o .one)) (o .zero) (λ e. L .one-is-not-zero (sym (pass-weighs s s l ∙ choice-yes (equal-lists decide s s) (o .one) (o .zero) refl) ∙ e))) }
 
-  negated-leaf : (l : List Cell) → LeafFormed o l → Each Plain l → Negated (Leaf l) (negate-leaf o (Leaf l))
+  negated-leaf : (l : List Cell) → LeafFormed o l → Each (Plain o) l → Negated (Leaf l) (negate-leaf o (Leaf l))
   negated-leaf l h k = go (plain-leaf l h k)
     where
       go : (l ≡ []) ⊎ (Leaf l ≡ pass-diagram o) → Negated (Leaf l) (negate-leaf o (Leaf l))
@@ -239,7 +237,7 @@ module _ {o : Ops} (L : Laws o) where
       go s t l (yes k) = make-weighs-yes L f n p q s t (formed-weighted o p (Y .formed)) (formed-weighted o q (Z .formed)) k ∙ Y .weighs s t l ∙ ap (C s t) (sym (weigh-yes o f n y z s s k))
       go s t l (no k) = make-weighs-no L f n p q s t k ∙ Z .weighs s t l ∙ ap (C s t) (sym (weigh-no o f n y z s s k))
 
-  pub negated : (d : Diagram) → Formed o d → Cells Plain d → Negated d (negate o d)
+  pub negated : (d : Diagram) → Formed o d → Cells (Plain o) d → Negated d (negate o d)
   unfolding negate
   negated (Leaf l) h k = negated-leaf l h k
   negated (Node f n y z) h k = negated-node f n y z (negate o y) (negate o z) h (negated y (h .1) (k .0)) (negated z (h .2) (k .1))

@@ -54,7 +54,7 @@ pub formed-all : (o : Ops) (d : Diagram) → Formed o d → Cells (CellFormed o)
 formed-all o (Leaf l) h = h .cells
 formed-all o (Node f n y z) h = (formed-all o y (h .1), formed-all o z (h .2))
 
-apply-long : (a : Action) (s : Frame) → ActionFormed a → length s ≡ fields → length (apply a s) ≡ fields
+pub apply-long : (a : Action) (s : Frame) → ActionFormed a → length s ≡ fields → length (apply a s) ≡ fields
 apply-long a s h l = length-zip2 replaced a s (h .all-fields ∙ sym l) ∙ h .all-fields
 
 module _ {o : Ops} (L : Laws o) (d : Diagram) (hd : Formed o d) where
@@ -148,7 +148,7 @@ module _ {o : Ops} (L : Laws o) (d : Diagram) (hd : Formed o d) where
 
   -- the rounds
 
-  round-good : (k : ℕ) → Formed o (round o d k)
+  pub round-good : (k : ℕ) → Formed o (round o d k)
   unfolding round
   round-good zero = pass-formed L
   round-good (suc k) = joined L (pass-diagram o) (sequence o d (round o d k)) (pass-formed L) (sequenced L (round o d k) (round-good k) d hd .formed) .formed
@@ -266,7 +266,7 @@ length-frames : (n : ℕ) (g h : ℕ → List ℕ) → ((f : ℕ) → length (g 
 length-frames zero g h e = refl
 length-frames (suc n) g h e = length-spread (g 0) (h 0) (frames-among n (λ f. g (suc f))) (frames-among n (λ f. h (suc f))) (e 0) (length-frames n (λ f. g (suc f)) (λ f. h (suc f)) (λ f. e (suc f)))
 
-module _ (names : ℕ → List ℕ) (enough : Spare names) {o : Ops} (L : Laws o) (d : Diagram) (hd : Formed o d) (nd : Named names d) where
+module _ (names : ℕ → List ℕ) {o : Ops} (L : Laws o) (d : Diagram) (hd : Formed o d) (nd : Named names d) where
   pub round-named : (k : ℕ) → Named names (round o d k)
   unfolding round
   round-named zero = record { tests = tt; sets = single-cells L (λ c. SetsOf (λ f n. In n (names f)) (c .0)) _ _ (keep-sets (λ f n. In n (names f))) }
@@ -315,9 +315,9 @@ module _ (names : ℕ → List ℕ) (enough : Spare names) {o : Ops} (L : Laws o
   enough-rounds = length (frames-among fields (λ f. 0 ∷ names f))
 
   -- the rounds end
-  pub star-ends : round o d enough-rounds ≡ round o d (suc enough-rounds)
+  pub star-ends : Spare names → round o d enough-rounds ≡ round o d (suc enough-rounds)
   unfolding enough-rounds
-  star-ends =
+  star-ends enough =
       same-weights-same names enough L (round o d K) (round o d (suc K)) (round-good L d hd K) (round-good L d hd (suc K)) (round-named K) (round-named (suc K)) (λ s t p q.
         round-weighs L d hd K s t (p .all-fields)
           ∙ sym (rounds L (same L d hd) (step L d hd) (weighed L d hd) K .ends s (frames-among fields (λ f. getD s f 0 ∷ names f)) (λ n x c v h. inr (met s (p .all-fields) x (near-walked s (p .all-fields) n x c v))) (few s) t)
