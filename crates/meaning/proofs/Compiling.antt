@@ -190,3 +190,88 @@ compiles-once o p d e (nots c) (nots c′) = ap (negate o) (compiles-once o _ _ 
 compiles-once o p d e (unions a b) (unions a′ b′) = ap₂ (join o) (compiles-once o _ _ _ a a′) (compiles-once o _ _ _ b b′)
 compiles-once o p d e (sequences a b) (sequences a′ b′) = ap₂ (sequence o) (compiles-once o _ _ _ a a′) (compiles-once o _ _ _ b b′)
 compiles-once o p d e (stars k c q) (stars j c′ q′) = star-once o _ _ k j (compiles-once o _ _ _ c c′) q q′
+
+-- the values that a policy names
+
+in-left : (v : ℕ) (xs ys : List ℕ) → In v xs → In v (xs ++ ys)
+in-left v [] ys i = absurd i
+in-left v (x ∷ xs) ys (inl e) = inl e
+in-left v (x ∷ xs) ys (inr i) = inr (in-left v xs ys i)
+
+in-right : (v : ℕ) (xs ys : List ℕ) → In v ys → In v (xs ++ ys)
+in-right v [] ys i = i
+in-right v (x ∷ xs) ys i = inr (in-right v xs ys i)
+
+pub uses-more : (M N : ℕ → List ℕ) → ((f v : ℕ) → In v (M f) → In v (N f)) → (p : Policy) → Uses M p → Uses N p
+uses-more M N h Drop u = tt
+uses-more M N h Pass u = tt
+uses-more M N h (Test f n) u = h f n u
+uses-more M N h (Set f n) u = h f n u
+uses-more M N h (Cost n) u = tt
+uses-more M N h (Not p) u = uses-more M N h p u
+uses-more M N h (Union p q) u = (uses-more M N h p (u .0), uses-more M N h q (u .1))
+uses-more M N h (Sequence p q) u = (uses-more M N h p (u .0), uses-more M N h q (u .1))
+uses-more M N h (Star p) u = uses-more M N h p u
+
+pub uses-named : (p : Policy) → Uses (named-in p) p
+uses-named Drop = tt
+uses-named Pass = tt
+uses-named (Test f n) = subst (In n) (sym (choice-yes (decide f f) (n ∷ []) [] refl)) (inl refl)
+uses-named (Set f n) = subst (In n) (sym (choice-yes (decide f f) (n ∷ []) [] refl)) (inl refl)
+uses-named (Cost n) = tt
+uses-named (Not p) = uses-named p
+uses-named (Union p q) =
+    (uses-more (named-in p) (named-in (Union p q)) (λ f v i. in-left v (named-in p f) (named-in q f) i) p (uses-named p),
+     uses-more (named-in q) (named-in (Union p q)) (λ f v i. in-right v (named-in p f) (named-in q f) i) q (uses-named q))
+uses-named (Sequence p q) =
+    (uses-more (named-in p) (named-in (Sequence p q)) (λ f v i. in-left v (named-in p f) (named-in q f) i) p (uses-named p),
+     uses-more (named-in q) (named-in (Sequence p q)) (λ f v i. in-right v (named-in p f) (named-in q f) i) q (uses-named q))
+uses-named (Star p) = uses-named p
+
+-- the values that either of two policies names
+pub named-in-either : Policy → Policy → ℕ → List ℕ
+named-in-either p q f = named-in p f ++ named-in q f
+
+pub uses-first : (p q : Policy) → Uses (named-in-either p q) p
+unfolding named-in-either
+uses-first p q = uses-more (named-in p) (λ f. named-in p f ++ named-in q f) (λ f v i. in-left v (named-in p f) (named-in q f) i) p (uses-named p)
+
+pub uses-second : (p q : Policy) → Uses (named-in-either p q) q
+unfolding named-in-either
+uses-second p q = uses-more (named-in q) (λ f. named-in p f ++ named-in q f) (λ f v i. in-right v (named-in p f) (named-in q f) i) q (uses-named q)
+
+length-one : (n : ℕ) {A : Type 0} (d : Dec A) → length (choice d (n ∷ []) []) ≤ 1
+length-one n (yes e) = omega arith
+length-one n (no e) = omega arith
+
+-- no more names than words
+length-named : (p : Policy) (f : ℕ) → length (named-in p f) ≤ length (postfix p)
+length-named Drop f = omega arith
+length-named Pass f = omega arith
+length-named (Test g n) f = length-one n (decide f g)
+length-named (Set g n) f = length-one n (decide f g)
+length-named (Cost n) f = omega arith
+length-named (Not p) f = one-more (length-named p f) (length-append (postfix p) _)
+  where
+    one-more : {k : ℕ} → length (named-in p f) ≤ length (postfix p) → k ≡ length (postfix p) + 1 → length (named-in p f) ≤ k
+    one-more a b = omega arith
+length-named (Union p q) f = two-more (length-named p f) (length-named q f) (length-append (named-in p f) (named-in q f)) (length-append (postfix p) _) (length-append (postfix q) _)
+  where
+    two-more : {k j i : ℕ} → length (named-in p f) ≤ length (postfix p) → length (named-in q f) ≤ length (postfix q) → i ≡ length (named-in p f) + length (named-in q f) → k ≡ length (postfix p) + j → j ≡ length (postfix q) + 1 → i ≤ k
+    two-more a b c d e = omega arith
+length-named (Sequence p q) f = two-more (length-named p f) (length-named q f) (length-append (named-in p f) (named-in q f)) (length-append (postfix p) _) (length-append (postfix q) _)
+  where
+    two-more : {k j i : ℕ} → length (named-in p f) ≤ length (postfix p) → length (named-in q f) ≤ length (postfix q) → i ≡ length (named-in p f) + length (named-in q f) → k ≡ length (postfix p) + j → j ≡ length (postfix q) + 1 → i ≤ k
+    two-more a b c d e = omega arith
+length-named (Star p) f = one-more (length-named p f) (length-append (postfix p) _)
+  where
+    one-more : {k : ℕ} → length (named-in p f) ≤ length (postfix p) → k ≡ length (postfix p) + 1 → length (named-in p f) ≤ k
+    one-more a b = omega arith
+
+-- two policies within the limit of words leave values unnamed in each field
+pub spare-either : (p q : Policy) → length (postfix p) ≤ words-limit → length (postfix q) ≤ words-limit → Spare (named-in-either p q)
+unfolding named-in-either
+spare-either p q a b f l = few (length-named p f) (length-named q f) (length-append (named-in p f) (named-in q f))
+  where
+    few : length (named-in p f) ≤ length (postfix p) → length (named-in q f) ≤ length (postfix q) → {k : ℕ} → k ≡ length (named-in p f) + length (named-in q f) → k < range f
+    few c d e = omega arith
