@@ -9,3 +9,4 @@ pub mod Sequencing
 pub mod Simple
 pub mod Starring
 pub mod Compiling
+pub mod Ruling
