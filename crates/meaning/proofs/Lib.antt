@@ -10,3 +10,4 @@ pub mod Simple
 pub mod Starring
 pub mod Compiling
 pub mod Ruling
+pub mod Rulings

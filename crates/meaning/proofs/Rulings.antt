@@ -22,7 +22,7 @@ use Rattle.meaning.specs.Rules.{Request, node, leaf-requests, requests-of, Req
 use Rattle.meaning.specs.Rules
 use Rattle.meaning.proofs.Gathering.{choice-yes, choice-no, each-map, each-append}
 use Rattle.meaning.proofs.Narrowing.{tests-map}
-use Rattle.meaning.proofs.Splitting.{after-unlike, From, Rooted, Splitting, rooted, unrooted, splitting, Heads, leaves, split, heads, split-shrinks, rooted-either, formed-tests-legal, at-formed, off-formed, at-greater, off-after}
+use Rattle.meaning.proofs.Splitting.{after-unlike, after-field, From, Rooted, Splitting, rooted, unrooted, splitting, Heads, leaves, split, heads, split-shrinks, rooted-either, formed-tests-legal, at-formed, off-formed, at-greater, off-after}
 use Rattle.meaning.proofs.Canonicity.{extent-positive}
 use Rattle.meaning.proofs.Joining.{Joined, joined-by, joined, weaker, tests-fields, Least, own, other, least, Chosen, chosen-by, chosen}
 use Rattle.meaning.proofs.Sequencing.{Prefixed, prefixed, Sequenced, sequenced}
@@ -65,9 +65,6 @@ requests-of-formed o (Leaf l) h = leaf-requests-formed o l h
 requests-of-formed o (Node f n y z) h = tt
 
 module _ {o : Ops} (L : Laws o) where
-  RF : List Request → Type 0
-  RF = Each (RequestFormed o)
-
   two : (ks js : List Request) → Each (RequestFormed o) ks → Each (RequestFormed o) js → Each (RequestFormed o) (ks ++ js)
   two ks js a b = each-append (RequestFormed o) ks js a b
 
@@ -231,7 +228,7 @@ module _ {o : Ops} (L : Laws o) where
         legal : (g < fields) × LegalValue g m
         legal = rooted-either (λ i j. (i < fields) × LegalValue i j) g m y z (H .3) (formed-tests-legal o y p) (formed-tests-legal o z q)
         field : After g m f n → g ≤ f
-        field a = Rattle.meaning.proofs.Splitting.after-field g m f n a
+        field a = after-field g m f n a
         upper : (d : Dec (g ≡ f)) → Formed o (choice d (at o z g m) (R (at o y g m) (at o z g m))) × Tests (λ i j. g ≤ i) (choice d (at o z g m) (R (at o y g m) (at o z g m)))
         upper (yes e) = (fz, weaker g (at o z g m) (at-greater L g m z q (H .2)))
         upper (no e) = (CB .formed, CB .tests (λ i j. g ≤ i) (field (H .0)) (weaker g (at o y g m) (at-greater L g m y p (H .1))) (weaker g (at o z g m) (at-greater L g m z q (H .2))))
