@@ -79,7 +79,7 @@ tests-fields o f n (Node g m y z) h r =
     widest : {k : ℕ} → f ≤ g → g ≤ k → f ≤ k
     widest a b = omega arith
 
-weaker : (f : ℕ) (d : Diagram) → Tests (λ g m. f < g) d → Tests (λ g m. f ≤ g) d
+pub weaker : (f : ℕ) (d : Diagram) → Tests (λ g m. f < g) d → Tests (λ g m. f ≤ g) d
 weaker f d t = tests-map _ _ (λ g m h. less g h) d t
   where
     less : (g : ℕ) → f < g → f ≤ g
@@ -119,7 +119,7 @@ module _ {o : Ops} (L : Laws o) where
             ∙ ap₂ (o .join) (at-weighs L f n d s t (formed-weighted o d p) h) (at-weighs L f n e s t (formed-weighted o e q) h)
       go s t (no h) = make-weighs-no L f n a b s t h ∙ B .weighs s t ∙ ap₂ (o .join) (off-weighs L f n d s t h) (off-weighs L f n e s t h)
 
-  joined-by : (k : ℕ) (d e : Diagram) → extent d + extent e ≤ k → Formed o d → Formed o e → Joined o d e (join-by o k d e)
+  pub joined-by : (k : ℕ) (d e : Diagram) → extent d + extent e ≤ k → Formed o d → Formed o e → Joined o d e (join-by o k d e)
   unfolding join-by
   joined-by zero d e b p q = absurd (none (extent-positive L d) b)
     where
@@ -259,7 +259,7 @@ module _ {o : Ops} (L : Laws o) (f n : ℕ) (f-exists : f < fields) (n-legal : L
         no-go s t h (yes k) = make-weighs-yes L g m b c s t wb wc k ∙ B .weighs-no s t h ∙ at-weighs L g m z s t (formed-weighted o z q) k
         no-go s t h (no k) = make-weighs-no L g m b c s t k ∙ C .weighs-no s t h ∙ off-weighs L g m z s t k
 
-  chosen-by : (k : ℕ) (y z : Diagram) → extent y + extent z ≤ k → Formed o y → Formed o z → Chosen o f n y z (choose-by o k f n y z)
+  pub chosen-by : (k : ℕ) (y z : Diagram) → extent y + extent z ≤ k → Formed o y → Formed o z → Chosen o f n y z (choose-by o k f n y z)
   unfolding choose-by
   chosen-by zero y z b p q = absurd (none (extent-positive L y) b)
     where

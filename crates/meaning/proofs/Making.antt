@@ -122,7 +122,7 @@ consistent-also p q r h k f n m e e′ = go (p f) refl e
     go None s t = k f n m t e′
     go (Some j) s t = h f n m (s ∙ t) e′
 
-consistent-known : (f n : ℕ) (q : Facts) → (q f ≡ None) ⊎ (q f ≡ Some n) → Consistent (known f n) q
+pub consistent-known : (f n : ℕ) (q : Facts) → (q f ≡ None) ⊎ (q f ≡ Some n) → Consistent (known f n) q
 consistent-known f n q h g k m e e′ = go (known-only f n g k e) h
   where
     go : (g ≡ f) × (k ≡ n) → (q f ≡ None) ⊎ (q f ≡ Some n) → k ≡ m
@@ -132,7 +132,7 @@ consistent-known f n q h g k m e e′ = go (known-only f n g k e) h
         inject : Some n ≡ Some m → n ≡ m
         inject t = cc
 
-consistent-flip : (p q : Facts) → Consistent p q → Consistent q p
+pub consistent-flip : (p q : Facts) → Consistent p q → Consistent q p
 consistent-flip p q h f n m e e′ = sym (h f m n e′ e)
 
 module _ {o : Ops} (L : Laws o) where
