@@ -24,10 +24,12 @@ pub const NESTING_LIMIT: usize = 64;
 pub const WAITING_LIMIT: usize = 256;
 // A cost number is at most this.
 pub const COST_LIMIT: u32 = 65_535;
+// A word's value is below this.
+pub const VALUE_END: u32 = 0x100_0000;
 
 const KIND_UNIT: u32 = 0x1000_0000;
 
-const FIELD_UNIT: u32 = 0x100_0000;
+const FIELD_UNIT: u32 = VALUE_END;
 
 // A word by its parts.
 #[derive(Clone, Copy)]
