@@ -58,8 +58,8 @@ module _ (text : List ℕ) (n : ℕ) where
   fault-unique (No-symbol-at.nothing-starts h e) (No-symbol-at.nothing-starts k d) = refl
   fault-unique (No-symbol-at.nothing-starts h e) (No-symbol-at.unknown st j) = absurd (no-cut (ahead text n) e st)
   fault-unique (No-symbol-at.unknown st j) (No-symbol-at.nothing-starts h e) = absurd (no-cut (ahead text n) e st)
-  fault-unique {f} {g} (No-symbol-at.unknown st j) (No-symbol-at.unknown tt′ i) =
-      let u = front-unique (ahead text n) st tt′ in
+  fault-unique {f} {g} (No-symbol-at.unknown st j) (No-symbol-at.unknown other i) =
+      let u = front-unique (ahead text n) st other in
       let judge : Err f ≡ Err g = sym j ∙ ap (λ l. judged l (start text n)) (u .0) ∙ i in
       cc
 

@@ -66,7 +66,7 @@ pub record Outline (g : Parse) (m : Machine) : Type 0 where
   pub tall : length (m .stack) ≡ nesting-limit
   pub within : m .depth ≤ nesting-limit
 
--- n words were written after the first ones
+-- ws were written after the first words, and what lies past them stays
 pub record Appended (was : List ℕ) (at : ℕ) (is : List ℕ) (end : ℕ) (ws : List ℕ) : Type 0 where
   pub count : end ≡ at + length ws
   pub front : take end is ≡ take at was ++ ws

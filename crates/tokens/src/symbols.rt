@@ -8,12 +8,10 @@ use super::tokens::Placed;
 use super::tokens::Symbol;
 use super::tokens::Token;
 use faults::TokenFault;
+use format::VALUE_END;
 
 // A number has at most this many digits.
 const DIGITS_LIMIT: usize = 8;
-
-// A number is below this.
-const VALUE_END: u32 = 0x100_0000;
 
 fn same(a: &[u8], b: &[u8]) -> bool
     ensures { λ r. ⌜ r ≡ sameBytes (now (a .entry)) (now (b .entry)) ⌝ }
