@@ -9,5 +9,3 @@ pub mod Sequencing
 pub mod Simple
 pub mod Starring
 pub mod Compiling
-pub mod Ruling
-pub mod Rulings
