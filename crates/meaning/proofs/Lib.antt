@@ -11,3 +11,7 @@ pub mod Starring
 pub mod Compiling
 pub mod Ruling
 pub mod Rulings
+pub mod Building
+pub mod Totality
+pub mod Once
+pub mod Ending

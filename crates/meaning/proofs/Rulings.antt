@@ -31,10 +31,10 @@ use Rattle.meaning.proofs.Starring.{round-good}
 use Rattle.meaning.proofs.Compiling.{Compiled, compiled}
 use Rattle.meaning.proofs.Ruling.{leaf-requests-formed, Sides, Ruled, ruled-narrows, ruled-makes, sides-formed}
 
-no-test : {A : Type 0} (t : Tested) → None ≡ Some t → A
+pub no-test : {A : Type 0} (t : Tested) → None ≡ Some t → A
 no-test t e = absurd (true≢false (cc))
 
-some-test : (t u : Tested) → Some t ≡ Some u → t ≡ u
+pub some-test : (t u : Tested) → Some t ≡ Some u → t ≡ u
 some-test t u e = cc
 
 -- what the smaller root test is to both diagrams
@@ -65,10 +65,10 @@ requests-of-formed o (Leaf l) h = leaf-requests-formed o l h
 requests-of-formed o (Node f n y z) h = tt
 
 module _ {o : Ops} (L : Laws o) where
-  two : (ks js : List Request) → Each (RequestFormed o) ks → Each (RequestFormed o) js → Each (RequestFormed o) (ks ++ js)
+  pub two : (ks js : List Request) → Each (RequestFormed o) ks → Each (RequestFormed o) js → Each (RequestFormed o) (ks ++ js)
   two ks js a b = each-append (RequestFormed o) ks js a b
 
-  three-of : (ks bs cs : List Request) → Each (RequestFormed o) ks → Each (RequestFormed o) bs → Each (RequestFormed o) cs → Each (RequestFormed o) (ks ++ (bs ++ cs))
+  pub three-of : (ks bs cs : List Request) → Each (RequestFormed o) ks → Each (RequestFormed o) bs → Each (RequestFormed o) cs → Each (RequestFormed o) (ks ++ (bs ++ cs))
   three-of ks bs cs a b c = two ks (bs ++ cs) a (two bs cs b c)
 
   five-of : (ks bs cs ds es : List Request) → Each (RequestFormed o) ks → Each (RequestFormed o) bs → Each (RequestFormed o) cs → Each (RequestFormed o) ds → Each (RequestFormed o) es → Each (RequestFormed o) (ks ++ (bs ++ (cs ++ (ds ++ es))))
