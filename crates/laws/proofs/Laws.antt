@@ -8,7 +8,7 @@ use Rattle.format.specs.Actions.{apply}
 use Rattle.format.specs.Policy.{Policy, Predicate}
 use Rattle.weights.specs.Weights.{Ops, Laws, Weight}
 use Rattle.weights.specs.Order.{Lub}
-use Rattle.meaning.specs.Leaves.{Action, Frame, Each}
+use Rattle.meaning.specs.Leaves.{Action, Frame}
 use Rattle.meaning.specs.Diagrams.{Diagram, weigh, narrow, known, Formed}
 use Rattle.meaning.specs.Constructions.{join, choose, sequence, negate, prefix, Compiles}
 use Rattle.meaning.specs.Frames.{InRange, Spare, Named, ToldApart}
@@ -21,15 +21,7 @@ use Rattle.meaning.proofs.Sequencing.{Prefixed, prefixed, Sequenced, sequenced}
 use Rattle.meaning.proofs.Simple.{Negated, negated}
 use Rattle.meaning.proofs.Starring.{sequence-lub, star-means, round-good, enough-rounds, star-ends}
 use Rattle.meaning.proofs.Compiling.{means-alike, Compiled, compiled, compiles, compiles-once, named-in-either, uses-first, uses-second, spare-either}
-use Rattle.meaning.specs.Rules.{Request, RequestFormed, Narrows, Makes, Joins, Chooses, Prefixes, Sequences, Negates, Builds}
-use Rattle.meaning.specs.Rules
-use Rattle.meaning.proofs.Ruling.{Ruled, ruled-narrows, ruled-makes}
-use Rattle.meaning.proofs.Rulings.{ruled-joins, ruled-chooses}
-use Rattle.meaning.proofs.Building.{ruled-prefixes, ruled-sequences, Ended, ruled-stars, Built, built}
-use Rattle.meaning.proofs.Totality.{narrow-total, make-total, join-total, choose-total, prefix-total, sequence-total, negate-total}
-use Rattle.meaning.proofs.Once.{narrows-once, makes-once, joins-once, chooses-once, prefixes-once, sequences-once, negates-once, stars-once, builds-once}
-use Rattle.meaning.proofs.Ending.{stars-total, builds-total}
-use Rattle.laws.specs.Claims.{Sound, OneMeaning, Narrowed, NarrowKeeps, Made, MakeKeeps, Canonical, JoinIsUnion, ChoosesWell, ChooseIsChoice, PrefixGoesBefore, SequenceIsSequence, NegateIsNot, StarsWell, StarEnds, OneResult, OneResultEach, RulesHaveOneResult, Gives, GivesEach, RulesGiveTheConstructions, StarRules, StarRulesEnd, PolicyRules, PolicyRulesGiveTheDiagram, DiagramOf, DiagramsGiveMeanings, SameMeaning, SameExactly, DiagramsDecide}
+use Rattle.laws.specs.Claims.{Sound, OneMeaning, Narrowed, NarrowKeeps, Made, MakeKeeps, Canonical, JoinIsUnion, Chooses, ChooseIsChoice, PrefixGoesBefore, SequenceIsSequence, NegateIsNot, Stars, StarEnds, DiagramOf, DiagramsGiveMeanings, SameMeaning, SameExactly, DiagramsDecide}
 
 -- the diagram of a sound policy
 of-policy : {o : Ops} (L : Laws o) (p q : Policy) → Sound p → (d : Diagram) → Compiles o p d → Compiled o (named-in-either p q) p d
@@ -119,44 +111,3 @@ diagrams-decide o L p q h k d e c c′ =
     D = compiled N L p d c (h .legal) (uses-first p q)
     E : Compiled o N q e
     E = compiled N L q e c′ (k .legal) (uses-second p q)
-
-pub rules-have-one-result : RulesHaveOneResult
-rules-have-one-result o =
-    record {
-      narrow-rules = λ d f n. record { some = narrow-total o d f n; only = λ r s ks js a b. narrows-once o a s js b };
-      make-rules = λ f n y z. record { some = make-total o f n y z; only = λ r s ks js a b. makes-once o a s js b };
-      join-rules = λ d e. record { some = join-total o d e; only = λ r s ks js a b. joins-once o a s js b };
-      choose-rules = λ f n y z. record { some = choose-total o f n y z; only = λ r s ks js a b. chooses-once o f n a s js b };
-      prefix-rules = λ a w d. record { some = prefix-total o a w d; only = λ r s ks js x y. prefixes-once o a w x s js y };
-      sequence-rules = λ d e. record { some = sequence-total o e d; only = λ r s ks js a b. sequences-once o e a s js b };
-      negate-rules = λ d. record { some = negate-total o d; only = λ r s ks js a b. negates-once o a s js b } }
-
-as-given : {o : Ops} {r s : Diagram} {ks : List Request} → Ruled o r s ks → (r ≡ s) × Each (RequestFormed o) ks
-as-given R = (R .same, R .requests)
-
-pub rules-give-the-constructions : RulesGiveTheConstructions
-rules-give-the-constructions o L =
-    record {
-      narrow-rules = λ d f n h r ks a. as-given (ruled-narrows L a h);
-      make-rules = λ f n i j y z p q t u r ks a. as-given (ruled-makes L a (record { exists = i; legal = j; yes-formed = p; no-formed = q; yes-fields = t; no-tests = u }));
-      join-rules = λ d e p q r ks a. as-given (ruled-joins L a p q);
-      choose-rules = λ f n i j y z p q r ks a. as-given (ruled-chooses L f n i j a p q);
-      prefix-rules = λ a w ha hw d h r ks x. as-given (ruled-prefixes L a w ha hw x h);
-      sequence-rules = λ d e p q r ks a. as-given (ruled-sequences L e q a p) }
-
-pub star-rules-end : StarRulesEnd
-star-rules-end o L names w d p q =
-    record {
-      one-result = record { some = stars-total L d p names w q; only = λ r s ks js a b. stars-once o d a s js b };
-      repeats = λ r ks a. (ruled-stars L d p a .at-round, ruled-stars L d p a .same, ruled-stars L d p a .repeats);
-      requests = λ r ks a. ruled-stars L d p a .requests }
-
-pub policy-rules : PolicyRulesGiveTheDiagram
-policy-rules o L p h =
-    record {
-      one-result = record { some = builds-total N (spare-either p p (h .short) (h .short)) L p (h .legal) (uses-first p p); only = λ d e ks js a b. builds-once o a e js b };
-      compiles = λ d ks a. built L N a (h .legal) (uses-first p p) .compiles;
-      requests = λ d ks a. built L N a (h .legal) (uses-first p p) .requests }
-  where
-    N : ℕ → List ℕ
-    N = named-in-either p p

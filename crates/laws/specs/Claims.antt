@@ -9,12 +9,10 @@ use Rattle.format.specs.Limits.{words-limit}
 use Rattle.format.specs.Actions.{apply}
 use Rattle.format.specs.Policy.{Policy, postfix, Predicate, Legal}
 use Rattle.weights.specs.Weights.{Ops, Laws, Weight}
-use Rattle.meaning.specs.Leaves.{Action, Frame, Each, ActionFormed}
+use Rattle.meaning.specs.Leaves.{Action, Frame, ActionFormed}
 use Rattle.meaning.specs.Diagrams.{Diagram, weigh, narrow, make, Tests, After, Formed, extent}
 use Rattle.meaning.specs.Constructions.{join, choose, prefix, sequence, negate, round, Compiles}
 use Rattle.meaning.specs.Frames.{InRange, Spare, Named, ToldApart}
-use Rattle.meaning.specs.Rules.{Request, RequestFormed, Narrows, Makes, Joins, Chooses, Prefixes, Sequences, Negates, Builds}
-use Rattle.meaning.specs.Rules
 use Rattle.meaning.specs.Meanings.{Meaning, Everywhere, Alike, IsUnion, IsSequence, IsNot, IsStar, Means}
 
 -- a legal policy within the limit of words
@@ -83,7 +81,7 @@ JoinIsUnion =
     Formed o (join o d e) × IsUnion o (weigh o d) (weigh o e) (weigh o (join o d e))
 
 -- y where field f holds n, else z
-pub record ChoosesWell (o : Ops) (f n : ℕ) (y z : Diagram) : Type 0 where
+pub record Chooses (o : Ops) (f n : ℕ) (y z : Diagram) : Type 0 where
   pub formed : Formed o (choose o f n y z)
   pub weighs-yes : (s t : Frame) → getD s f 0 ≡ n → weigh o (choose o f n y z) s t ≡ weigh o y s t
   pub weighs-no : (s t : Frame) → getD s f 0 ≢ n → weigh o (choose o f n y z) s t ≡ weigh o z s t
@@ -98,7 +96,7 @@ ChooseIsChoice =
     (y z : Diagram) →
     Formed o y →
     Formed o z →
-    ChoosesWell o f n y z
+    Chooses o f n y z
 
 -- w times what the diagram gives to the frame that the action makes
 abbrev pub PrefixGoesBefore : Type 0
@@ -135,7 +133,7 @@ NegateIsNot =
     Formed o (negate o d) × IsNot o (weigh o d) (weigh o (negate o d))
 
 -- some round is repeated by the next, and each such round is the star
-pub record StarsWell (o : Ops) (d : Diagram) : Type 0 where
+pub record Stars (o : Ops) (d : Diagram) : Type 0 where
   pub ends : (k : ℕ) × (round o d k ≡ round o d (suc k))
   pub formed : (k : ℕ) → Formed o (round o d k)
   pub star : (k : ℕ) → round o d k ≡ round o d (suc k) → IsStar o (weigh o d) (weigh o (round o d k))
@@ -149,7 +147,7 @@ StarEnds =
     (d : Diagram) →
     Formed o d →
     Named names d →
-    StarsWell o d
+    Stars o d
 
 -- the one diagram of the policy is formed and gives what the policy means
 pub record DiagramOf (o : Ops) (p : Policy) (d : Diagram) : Type 0 where
@@ -183,85 +181,3 @@ DiagramsDecide =
     Compiles o p d →
     Compiles o q e →
     SameExactly o p q d e
-
--- the rules give a diagram and requests, and no others
-pub record OneResult (R : Diagram → List Request → Type 0) : Type 0 where
-  pub some : (r : Diagram) × (ks : List Request) × R r ks
-  pub only : (r s : Diagram) (ks js : List Request) → R r ks → R s js → (r ≡ s) × (ks ≡ js)
-
--- of the constructions as rules, whatever the operands and the weight kind
-pub record OneResultEach (o : Ops) : Type 0 where
-  pub narrow-rules : (d : Diagram) (f n : ℕ) → OneResult (Narrows o d f n)
-  pub make-rules : (f n : ℕ) (y z : Diagram) → OneResult (Makes o f n y z)
-  pub join-rules : (d e : Diagram) → OneResult (Joins o d e)
-  pub choose-rules : (f n : ℕ) (y z : Diagram) → OneResult (Chooses o f n y z)
-  pub prefix-rules : (a : Action) (w : ℕ) (d : Diagram) → OneResult (Prefixes o a w d)
-  pub sequence-rules : (d e : Diagram) → OneResult (Sequences o e d)
-  pub negate-rules : (d : Diagram) → OneResult (Negates o d)
-
-abbrev pub RulesHaveOneResult : Type 0
-RulesHaveOneResult = (o : Ops) → OneResultEach o
-
--- the rules give the diagram s, and request only records of formed diagrams
-abbrev pub Gives : Ops → (Diagram → List Request → Type 0) → Diagram → Type 0
-Gives o R s = (r : Diagram) (ks : List Request) → R r ks → (r ≡ s) × Each (RequestFormed o) ks
-
--- on formed operands the rules give what the constructions give
-pub record GivesEach (o : Ops) : Type 0 where
-  pub narrow-rules : (d : Diagram) (f n : ℕ) → Formed o d → Gives o (Narrows o d f n) (narrow o d f n)
-  pub make-rules :
-      (f n : ℕ) →
-      f < fields →
-      LegalValue f n →
-      (y z : Diagram) →
-      Formed o y →
-      Formed o z →
-      Tests (λ g m. f ≤ g) y →
-      Tests (After f n) z →
-      Gives o (Makes o f n y z) (make o f n y z)
-  pub join-rules : (d e : Diagram) → Formed o d → Formed o e → Gives o (Joins o d e) (join o d e)
-  pub choose-rules :
-      (f n : ℕ) →
-      f < fields →
-      LegalValue f n →
-      (y z : Diagram) →
-      Formed o y →
-      Formed o z →
-      Gives o (Chooses o f n y z) (choose o f n y z)
-  pub prefix-rules :
-      (a : Action) (w : ℕ) →
-      ActionFormed a →
-      Weight o w →
-      (d : Diagram) →
-      Formed o d →
-      Gives o (Prefixes o a w d) (prefix o a w d)
-  pub sequence-rules : (d e : Diagram) → Formed o d → Formed o e → Gives o (Sequences o e d) (sequence o d e)
-
-abbrev pub RulesGiveTheConstructions : Type 0
-RulesGiveTheConstructions = (o : Ops) → Laws o → GivesEach o
-
--- star's rules end, and give a round that the next one repeats
-pub record StarRules (o : Ops) (d : Diagram) : Type 0 where
-  pub one-result : OneResult (Rules.Stars o d)
-  pub repeats : (r : Diagram) (ks : List Request) → Rules.Stars o d r ks → (k : ℕ) × (r ≡ round o d k) × (round o d k ≡ round o d (suc k))
-  pub requests : (r : Diagram) (ks : List Request) → Rules.Stars o d r ks → Each (RequestFormed o) ks
-
-abbrev pub StarRulesEnd : Type 0
-StarRulesEnd =
-    (o : Ops) →
-    Laws o →
-    (names : ℕ → List ℕ) →
-    Spare names →
-    (d : Diagram) →
-    Formed o d →
-    Named names d →
-    StarRules o d
-
--- the rules of a policy give its diagram, with one list of requests, all of formed diagrams
-pub record PolicyRules (o : Ops) (p : Policy) : Type 0 where
-  pub one-result : OneResult (Builds o p)
-  pub compiles : (d : Diagram) (ks : List Request) → Builds o p d ks → Compiles o p d
-  pub requests : (d : Diagram) (ks : List Request) → Builds o p d ks → Each (RequestFormed o) ks
-
-abbrev pub PolicyRulesGiveTheDiagram : Type 0
-PolicyRulesGiveTheDiagram = (o : Ops) → Laws o → (p : Policy) → Sound p → PolicyRules o p

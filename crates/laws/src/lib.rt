@@ -1,5 +1,15 @@
 // What holds of policies and diagrams, for every lawful weight kind: each function stands for a theorem.
-ghost use Rattle.laws.specs.Claims.{OneMeaning, NarrowKeeps, MakeKeeps, Canonical, JoinIsUnion, ChooseIsChoice, PrefixGoesBefore, SequenceIsSequence, NegateIsNot, StarEnds, DiagramsGiveMeanings, DiagramsDecide, RulesHaveOneResult, RulesGiveTheConstructions, StarRulesEnd, PolicyRulesGiveTheDiagram};
+ghost use mathlib.Core.Logic.{_≢_};
+ghost use Prim.Native.Nat.{ℕ};
+ghost use Rattle.format.specs.Policy.{Policy};
+ghost use Rattle.weights.specs.Weights.{Ops, Laws};
+ghost use Rattle.meaning.specs.Leaves.{Action};
+ghost use Rattle.meaning.specs.Diagrams.{Diagram, Formed, weigh};
+ghost use Rattle.meaning.specs.Constructions.{join, prefix, sequence, negate};
+ghost use Rattle.meaning.specs.Frames.{ToldApart};
+ghost use Rattle.meaning.specs.Meanings.{Meaning, Means, IsNot};
+ghost use Rattle.laws.specs.Claims.{Narrowed, Made, Chooses, Stars, DiagramOf, SameExactly};
+ghost use Rattle.laws.specs.Claims.{OneMeaning, NarrowKeeps, MakeKeeps, Canonical, JoinIsUnion, ChooseIsChoice, PrefixGoesBefore, SequenceIsSequence, NegateIsNot, StarEnds, DiagramsGiveMeanings, DiagramsDecide};
 
 // A policy means exactly one thing.
 pub fn a_policy_has_one_meaning()
@@ -54,24 +64,4 @@ pub fn diagrams_give_meanings()
 // Policies mean the same exactly if their diagrams are the same.
 pub fn equal_diagrams_exactly_for_equal_meanings()
     ensures { λ _. ⌜ DiagramsDecide ⌝ }
-{}
-
-// The constructions as rules give one diagram and one list of requests, whatever the operands.
-pub fn rules_have_one_result()
-    ensures { λ _. ⌜ RulesHaveOneResult ⌝ }
-{}
-
-// On formed operands the rules give the constructions, and request only records of formed diagrams.
-pub fn rules_give_the_constructions()
-    ensures { λ _. ⌜ RulesGiveTheConstructions ⌝ }
-{}
-
-// The rules of star end at a round that the next one repeats.
-pub fn the_rules_of_star_end()
-    ensures { λ _. ⌜ StarRulesEnd ⌝ }
-{}
-
-// The rules of a policy give its diagram, and request only records of formed diagrams.
-pub fn the_rules_of_a_policy_give_its_diagram()
-    ensures { λ _. ⌜ PolicyRulesGiveTheDiagram ⌝ }
 {}

@@ -9,9 +9,3 @@ pub mod Sequencing
 pub mod Simple
 pub mod Starring
 pub mod Compiling
-pub mod Ruling
-pub mod Rulings
-pub mod Building
-pub mod Totality
-pub mod Once
-pub mod Ending

@@ -4,4 +4,3 @@ pub mod Diagrams
 pub mod Constructions
 pub mod Frames
 pub mod Meanings
-pub mod Rules
