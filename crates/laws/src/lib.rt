@@ -1,4 +1,14 @@
 // What holds of policies and diagrams, for every lawful weight kind: each function stands for a theorem.
+ghost use mathlib.Core.Logic.{_≢_};
+ghost use Prim.Native.Nat.{ℕ};
+ghost use Rattle.format.specs.Policy.{Policy};
+ghost use Rattle.weights.specs.Weights.{Ops, Laws};
+ghost use Rattle.meaning.specs.Leaves.{Action};
+ghost use Rattle.meaning.specs.Diagrams.{Diagram, Formed, weigh};
+ghost use Rattle.meaning.specs.Constructions.{join, prefix, sequence, negate};
+ghost use Rattle.meaning.specs.Frames.{ToldApart};
+ghost use Rattle.meaning.specs.Meanings.{Meaning, Means, IsNot};
+ghost use Rattle.laws.specs.Claims.{Narrowed, Made, Chooses, Stars, DiagramOf, SameExactly};
 ghost use Rattle.laws.specs.Claims.{OneMeaning, NarrowKeeps, MakeKeeps, Canonical, JoinIsUnion, ChooseIsChoice, PrefixGoesBefore, SequenceIsSequence, NegateIsNot, StarEnds, DiagramsGiveMeanings, DiagramsDecide};
 
 // A policy means exactly one thing.
