@@ -1,1 +1,2 @@
 pub mod Unique
+pub mod Narrowed

@@ -1,2 +1,3 @@
 pub mod Requests
 pub mod Rules
+pub mod Gives
