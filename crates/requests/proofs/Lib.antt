@@ -1,2 +1,4 @@
 pub mod Unique
 pub mod Narrowed
+pub mod Worded
+pub mod Joined

@@ -25,7 +25,7 @@ append-two p q = ap₂ (λ (x y : List Request). x ++ y) p q
 append-three : {a b c a′ b′ c′ : List Request} → a ≡ a′ → b ≡ b′ → c ≡ c′ → a ++ (b ++ c) ≡ a′ ++ (b′ ++ c′)
 append-three p q r = append-two p (append-two q r)
 
-none-some : {A : Type 0} {t : Tested} → None ≡ Some t → A
+pub none-some : {A : Type 0} {t : Tested} → None ≡ Some t → A
 none-some e = absurd (true≢false (cc))
 
 none-set : {A : Type 0} {x : Option ℕ} {m : ℕ} → x ≡ None → x ≡ Some m → A
@@ -35,7 +35,7 @@ the-test : Option Tested → Tested
 the-test None = (0, 0)
 the-test (Some t) = t
 
-same-test : {x : Option Tested} {f n g m : ℕ} → x ≡ Some (f, n) → x ≡ Some (g, m) → (g ≡ f) × (m ≡ n)
+pub same-test : {x : Option Tested} {f n g m : ℕ} → x ≡ Some (f, n) → x ≡ Some (g, m) → (g ≡ f) × (m ≡ n)
 unfolding the-test
 same-test p q = (ap (λ (u : Option Tested). the-test u .0) (sym q ∙ p), ap (λ (u : Option Tested). the-test u .1) (sym q ∙ p))
 
