@@ -6,3 +6,6 @@ pub mod Canonicity
 pub mod Canonical
 pub mod Joining
 pub mod Sequencing
+pub mod Simple
+pub mod Starring
+pub mod Compiling

@@ -46,7 +46,7 @@ compose-set (x ∷ a) (y ∷ b) zero n e = one y e
 compose-set (x ∷ a) (y ∷ b) (suc f) n e = compose-set a b f n e
 
 -- sets of legal values are kept
-legal-set : (f : ℕ) (x : Option ℕ) → ((n : ℕ) → x ≡ Some n → LegalValue f n) → LegalSet f x
+pub legal-set : (f : ℕ) (x : Option ℕ) → ((n : ℕ) → x ≡ Some n → LegalValue f n) → LegalSet f x
 legal-set f None h = tt
 legal-set f (Some n) h = h n refl
 
