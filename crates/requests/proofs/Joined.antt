@@ -27,7 +27,7 @@ not-root : (f n : ℕ) (d : Diagram) → Unrooted f n d → root d ≢ Some (f, 
 not-root f n (Leaf l) u e = none-some e
 not-root f n (Node g m y z) u e = u (same-test e refl .0, same-test e refl .1)
 
-weaker : (f : ℕ) (d : Diagram) → Tests (λ g m. f < g) d → Tests (λ g m. f ≤ g) d
+pub weaker : (f : ℕ) (d : Diagram) → Tests (λ g m. f < g) d → Tests (λ g m. f ≤ g) d
 weaker f d t = tests-map _ _ (λ g m h. less g h) d t
   where
     less : (g : ℕ) → f < g → f ≤ g

@@ -2,3 +2,5 @@ pub mod Unique
 pub mod Narrowed
 pub mod Worded
 pub mod Joined
+pub mod Followed
+pub mod Compiled
