@@ -4,3 +4,4 @@ pub mod Worded
 pub mod Joined
 pub mod Followed
 pub mod Compiled
+pub mod Claims

@@ -1,3 +1,3 @@
 pub mod Requests
 pub mod Rules
-pub mod Gives
+pub mod Claims

@@ -1,0 +1,125 @@
+-- What the rules give, for every lawful weight kind.
+use mathlib.Core.Path.{_≡_}
+use mathlib.Core.List.{List}
+use Prim.Native.Nat.{ℕ, suc, _<_, _≤_}
+use lib.ListN.{length}
+use Rattle.format.specs.Fields.{fields, LegalValue}
+use Rattle.format.specs.Limits.{words-limit}
+use Rattle.format.specs.Policy.{Policy, postfix, Legal}
+use Rattle.weights.specs.Weights.{Ops, Weight, Laws}
+use Rattle.meaning.specs.Leaves.{Action, Each, ActionFormed}
+use Rattle.meaning.specs.Diagrams.{Diagram, narrow, make, Tests, After, Formed}
+use Rattle.meaning.specs.Constructions.{join, choose, prefix, sequence, negate, round, Compiles}
+use Rattle.meaning.specs.Frames.{Spare, Named}
+use Rattle.requests.specs.Requests.{Request, RecordFormed}
+use Rattle.requests.specs.Rules.{Narrows, Makes, Joins, Chooses, Prefixes, Sequences, Negates, Stars, Compiled}
+
+-- a construction by its rules: a diagram, and the records that it requests
+abbrev pub Construction : Type 1
+Construction = Diagram → List Request → Type 0
+
+-- the rules give at most one diagram and one list of requests
+abbrev pub AtMostOne : Construction → Type 0
+AtMostOne R = (r s : Diagram) (a b : List Request) → R r a → R s b → (r ≡ s) × (a ≡ b)
+
+-- on all operands, well-formed or not
+pub record RulesAgree (o : Ops) : Type 0 where
+  pub narrow-once : (d : Diagram) (f n : ℕ) → AtMostOne (Narrows o d f n)
+  pub make-once : (f n : ℕ) (y z : Diagram) → AtMostOne (Makes o f n y z)
+  pub join-once : (d e : Diagram) → AtMostOne (Joins o d e)
+  pub choose-once : (f n : ℕ) (y z : Diagram) → AtMostOne (Chooses o f n y z)
+  pub prefix-once : (s : Action) (w : ℕ) (d : Diagram) → AtMostOne (Prefixes o s w d)
+  pub sequence-once : (d e : Diagram) → AtMostOne (Sequences o e d)
+  pub negate-once : (d : Diagram) → AtMostOne (Negates o d)
+  pub star-once : (d : Diagram) → AtMostOne (Stars o d)
+  pub compile-once : (p : Policy) → AtMostOne (Compiled o p)
+
+abbrev pub OneAnswer : Type 0
+OneAnswer = (o : Ops) → RulesAgree o
+
+-- the rules give the diagram r and nothing else, and request only records of well-formed diagrams
+pub record Gives (o : Ops) (R : Construction) (r : Diagram) : Type 0 where
+  pub asks : List Request
+  pub by-the-rules : R r asks
+  pub nothing-else : (s : Diagram) (b : List Request) → R s b → (s ≡ r) × (b ≡ asks)
+  pub records-formed : Each (RecordFormed o) asks
+
+abbrev pub NarrowGives : Type 0
+NarrowGives = (o : Ops) → Laws o → (d : Diagram) → Formed o d → (f n : ℕ) → Gives o (Narrows o d f n) (narrow o d f n)
+
+-- the yes side tests no earlier field, the no side only later tests
+abbrev pub MakeGives : Type 0
+MakeGives =
+    (o : Ops) →
+    Laws o →
+    (f n : ℕ) →
+    f < fields →
+    LegalValue f n →
+    (y z : Diagram) →
+    Formed o y →
+    Formed o z →
+    Tests (λ g m. f ≤ g) y →
+    Tests (After f n) z →
+    Gives o (Makes o f n y z) (make o f n y z)
+
+abbrev pub JoinGives : Type 0
+JoinGives = (o : Ops) → Laws o → (d e : Diagram) → Formed o d → Formed o e → Gives o (Joins o d e) (join o d e)
+
+abbrev pub ChooseGives : Type 0
+ChooseGives =
+    (o : Ops) →
+    Laws o →
+    (f n : ℕ) →
+    f < fields →
+    LegalValue f n →
+    (y z : Diagram) →
+    Formed o y →
+    Formed o z →
+    Gives o (Chooses o f n y z) (choose o f n y z)
+
+abbrev pub PrefixGives : Type 0
+PrefixGives =
+    (o : Ops) →
+    Laws o →
+    (s : Action) (w : ℕ) →
+    ActionFormed s →
+    Weight o w →
+    (d : Diagram) →
+    Formed o d →
+    Gives o (Prefixes o s w d) (prefix o s w d)
+
+abbrev pub SequenceGives : Type 0
+SequenceGives = (o : Ops) → Laws o → (d e : Diagram) → Formed o d → Formed o e → Gives o (Sequences o e d) (sequence o d e)
+
+abbrev pub NegateGives : Type 0
+NegateGives = (o : Ops) → Laws o → (d : Diagram) → Formed o d → Gives o (Negates o d) (negate o d)
+
+-- star gives the round that the next one repeats, whichever such round it is
+abbrev pub StarGives : Type 0
+StarGives =
+    (o : Ops) →
+    Laws o →
+    (d : Diagram) →
+    Formed o d →
+    (k : ℕ) →
+    round o d k ≡ round o d (suc k) →
+    Gives o (Stars o d) (round o d k)
+
+-- where each field has values that the diagram does not name, there is such a round
+abbrev pub StarAnswers : Type 0
+StarAnswers =
+    (o : Ops) →
+    Laws o →
+    (d : Diagram) →
+    Formed o d →
+    (names : ℕ → List ℕ) →
+    Spare names →
+    Named names d →
+    (k : ℕ) × Gives o (Stars o d) (round o d k)
+
+abbrev pub CompileGives : Type 0
+CompileGives = (o : Ops) → Laws o → (p : Policy) → Legal p → (d : Diagram) → Compiles o p d → Gives o (Compiled o p) d
+
+-- a legal policy within the limit of words has a diagram
+abbrev pub CompileAnswers : Type 0
+CompileAnswers = (o : Ops) → Laws o → (p : Policy) → Legal p → length (postfix p) ≤ words-limit → (d : Diagram) × Compiles o p d × Gives o (Compiled o p) d
