@@ -1,4 +1,5 @@
 pub mod Unique
+pub mod Acting
 pub mod Narrowed
 pub mod Worded
 pub mod Joined

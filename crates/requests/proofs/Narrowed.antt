@@ -9,12 +9,13 @@ use Rattle.std.specs.declared.option.Option.the-variants.{Some, None}
 use Rattle.format.specs.Fields.{fields, LegalValue}
 use Rattle.weights.specs.Weights.{Ops, Laws}
 use Rattle.meaning.specs.Leaves.{Action, Cell, Each, collect, Ascending, ActionFormed, CellFormed, LeafFormed}
-use Rattle.meaning.specs.Diagrams.{Diagram, Leaf, Node, Facts, known, also, narrow-cell, narrows, narrow, make, Tests, Sets, After, Unlike, NodeFormed, Formed, extent}
+use Rattle.meaning.specs.Diagrams.{Diagram, Leaf, Node, known, also, narrows, narrow, make, Tests, Sets, After, Unlike, NodeFormed, Formed, extent}
 use Rattle.meaning.proofs.Gathering.{each-append}
-use Rattle.meaning.proofs.Narrowing.{none-some, known-there, known-only, known-else, Consistent, Narrowing, yes-side, no-side, merged, kept, narrowing, narrows-leaf as narrowed-leaf, tests-map, sets-map, tests-narrows, extent-narrows, formed-weighted}
+use Rattle.meaning.proofs.Narrowing.{none-some, known-there, known-only, known-else, Consistent, Narrowing, yes-side, no-side, merged, kept, narrowing, tests-map, sets-map, tests-narrows, extent-narrows, formed-weighted}
 use Rattle.meaning.proofs.Making.{narrows-narrows, formed-narrows, narrows-still, Making, alike, apart, making, make-formed}
 use Rattle.meaning.proofs.Canonicity.{extent-positive}
 use Rattle.requests.specs.Requests.{Request, node, leaf-records, RecordFormed}
+use Rattle.requests.proofs.Acting.{narrow-of-leaf}
 use Rattle.requests.specs.Rules.{narrow-leaf, Narrows, narrows-leaf, narrows-yes, narrows-no, narrows-both, Makes, makes-no, makes-node}
 
 -- the construction gives r by the rules R, and requests well-formed records only
@@ -144,8 +145,8 @@ module _ {o : Ops} (L : Laws o) where
 
   leaf-given : (l : List Cell) (f n : ℕ) → Formed o (Leaf l) → Given o (Narrows o (Leaf l) f n) (narrow o (Leaf l) f n)
   leaf-given l f n h =
-      subst (Given o (Narrows o (Leaf l) f n)) (sym (narrowed-leaf o (known f n) l))
-        (record { asks = leaf-records (narrow-leaf o l f n); built = narrows-leaf; sound = leaf-sound o (narrow-leaf o l f n) (subst (Formed o) (narrowed-leaf o (known f n) l) (formed-narrows L (Leaf l) (known f n) h)) })
+      subst (Given o (Narrows o (Leaf l) f n)) (sym (narrow-of-leaf o l f n))
+        (record { asks = leaf-records (narrow-leaf o l f n); built = narrows-leaf; sound = leaf-sound o (narrow-leaf o l f n) (subst (Formed o) (narrow-of-leaf o l f n) (formed-narrows L (Leaf l) (known f n) h)) })
 
   narrow-given-by : (k : ℕ) → NarrowsUpTo k
   narrow-given-by zero d f n b h = absurd (none (extent-positive L d) b)

@@ -7,17 +7,21 @@ use Prim.Native.Nat.{ℕ}
 use lib.ListN.{getD, set}
 use Rattle.std.specs.declared.option.Option.{Option}
 use Rattle.std.specs.declared.option.Option.the-variants.{Some, None}
-use Rattle.format.specs.Actions.{keep-all}
+use Rattle.format.specs.Actions.{narrow-action, keep-all}
 use Rattle.format.specs.Policy.{Policy, Drop, Pass, Test, Set, Cost, Not, Union, Sequence, Star}
 use Rattle.weights.specs.Weights.{Ops}
 use Rattle.meaning.specs.Leaves.{Action, Cell, enter, collect}
-use Rattle.meaning.specs.Diagrams.{Diagram, Leaf, Node, known, narrow-cell}
+use Rattle.meaning.specs.Diagrams.{Diagram, Leaf, Node}
 use Rattle.meaning.specs.Constructions.{Tested, root, earlier, first-root, off, prefix-cell}
 use Rattle.requests.specs.Requests.{Request, node, leaf-records}
 
--- the leaf where field f holds n: an action that sets f to n keeps f instead, collected
+-- where field f holds n, an action that sets f to n keeps f instead
+abbrev pub narrow-one : ℕ → ℕ → Cell → Cell
+narrow-one f n c = (narrow-action (c .0) f n, c .1)
+
+-- the leaf where field f holds n, collected
 abbrev pub narrow-leaf : Ops → List Cell → ℕ → ℕ → List Cell
-narrow-leaf o l f n = collect o (map (narrow-cell (known f n)) l)
+narrow-leaf o l f n = collect o (map (narrow-one f n) l)
 
 mutual
   -- Narrows o d f n r asks: d for frames whose field f holds n is r
