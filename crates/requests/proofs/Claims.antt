@@ -9,11 +9,12 @@ use Rattle.meaning.proofs.Starring.{enough-rounds, star-ends}
 use Rattle.meaning.proofs.Compiling.{compiles, named-in-either, uses-first, spare-either}
 use Rattle.requests.specs.Requests.{Request}
 use Rattle.requests.specs.Rules.{Narrows, Makes, Joins, Chooses, Prefixes, Sequences, Negates, Stars, Compiled}
-use Rattle.requests.specs.Claims.{Construction, AtMostOne, RulesAgree, OneAnswer, Gives, NarrowGives, MakeGives, JoinGives, ChooseGives, PrefixGives, SequenceGives, NegateGives, StarGives, StarAnswers, CompileGives, CompileAnswers}
+use Rattle.requests.specs.Claims.{Construction, AtMostOne, AtLeastOne, RulesAgree, RulesCover, SomeAnswer, OneAnswer, Gives, NarrowGives, MakeGives, JoinGives, ChooseGives, PrefixGives, SequenceGives, NegateGives, StarGives, StarAnswers, CompileGives, CompileAnswers}
 use Rattle.requests.proofs.Unique.{narrows-same, makes-same, joins-same, chooses-same, prefixes-same, sequences-same, negates-same, stars-same, compiled-same}
 use Rattle.requests.proofs.Narrowed.{Given, narrow-given, make-given}
 use Rattle.requests.proofs.Joined.{join-given, choose-given}
 use Rattle.requests.proofs.Followed.{prefix-given, sequence-given}
+use Rattle.requests.proofs.Total.{narrow-total, make-total, join-total, choose-total, prefix-total, sequence-total, negate-total}
 use Rattle.requests.proofs.Compiled.{negate-given, star-given, compile-given}
 
 pub rules-agree : (o : Ops) → RulesAgree o
@@ -28,6 +29,17 @@ rules-agree o =
       negate-once = λ d r s a b p q. negates-same p q;
       star-once = λ d r s a b p q. stars-same p q;
       compile-once = λ t r s a b p q. compiled-same p q }
+
+pub rules-cover : (o : Ops) → RulesCover o
+rules-cover o =
+    record {
+      narrow-covers = narrow-total o;
+      make-covers = make-total o;
+      join-covers = join-total o;
+      choose-covers = choose-total o;
+      prefix-covers = prefix-total o;
+      sequence-covers = λ d e. sequence-total o e d;
+      negate-covers = negate-total o }
 
 gives : (o : Ops) (R : Diagram → List Request → Type 0) (r : Diagram) → AtMostOne R → Given o R r → Gives o R r
 gives o R r once g =

@@ -23,7 +23,7 @@ use Rattle.requests.proofs.Unique.{none-some, same-test}
 use Rattle.requests.proofs.Narrowed.{Given, leaf-sound, sound-two, sound-three, Ready, narrow-given, make-given}
 use Rattle.requests.proofs.Worded.{join-of-leaves, join-of-split, choose-own, choose-same-field, choose-other-field}
 
-not-root : (f n : ℕ) (d : Diagram) → Unrooted f n d → root d ≢ Some (f, n)
+pub not-root : (f n : ℕ) (d : Diagram) → Unrooted f n d → root d ≢ Some (f, n)
 not-root f n (Leaf l) u e = none-some e
 not-root f n (Node g m y z) u e = u (same-test e refl .0, same-test e refl .1)
 

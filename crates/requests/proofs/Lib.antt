@@ -3,6 +3,7 @@ pub mod Acting
 pub mod Narrowed
 pub mod Worded
 pub mod Joined
+pub mod Total
 pub mod Followed
 pub mod Compiled
 pub mod Claims

@@ -22,7 +22,11 @@ Construction = Diagram → List Request → Type 0
 abbrev pub AtMostOne : Construction → Type 0
 AtMostOne R = (r s : Diagram) (a b : List Request) → R r a → R s b → (r ≡ s) × (a ≡ b)
 
--- on all operands, well-formed or not
+-- the rules give a diagram
+abbrev pub AtLeastOne : Construction → Type 0
+AtLeastOne R = (r : Diagram) × (a : List Request) × R r a
+
+-- the rules agree on all operands, well-formed or not
 pub record RulesAgree (o : Ops) : Type 0 where
   pub narrow-once : (d : Diagram) (f n : ℕ) → AtMostOne (Narrows o d f n)
   pub make-once : (f n : ℕ) (y z : Diagram) → AtMostOne (Makes o f n y z)
@@ -33,6 +37,19 @@ pub record RulesAgree (o : Ops) : Type 0 where
   pub negate-once : (d : Diagram) → AtMostOne (Negates o d)
   pub star-once : (d : Diagram) → AtMostOne (Stars o d)
   pub compile-once : (p : Policy) → AtMostOne (Compiled o p)
+
+-- and they cover all operands; only star asks that its operand be well-formed
+pub record RulesCover (o : Ops) : Type 0 where
+  pub narrow-covers : (d : Diagram) (f n : ℕ) → AtLeastOne (Narrows o d f n)
+  pub make-covers : (f n : ℕ) (y z : Diagram) → AtLeastOne (Makes o f n y z)
+  pub join-covers : (d e : Diagram) → AtLeastOne (Joins o d e)
+  pub choose-covers : (f n : ℕ) (y z : Diagram) → AtLeastOne (Chooses o f n y z)
+  pub prefix-covers : (s : Action) (w : ℕ) (d : Diagram) → AtLeastOne (Prefixes o s w d)
+  pub sequence-covers : (d e : Diagram) → AtLeastOne (Sequences o e d)
+  pub negate-covers : (d : Diagram) → AtLeastOne (Negates o d)
+
+abbrev pub SomeAnswer : Type 0
+SomeAnswer = (o : Ops) → RulesCover o
 
 abbrev pub OneAnswer : Type 0
 OneAnswer = (o : Ops) → RulesAgree o

@@ -1,10 +1,15 @@
 // The constructions on diagrams, rule by rule, with the records that they request: each function stands for a theorem,
 // for every lawful weight kind.
-ghost use Rattle.requests.specs.Claims.{OneAnswer, NarrowGives, MakeGives, JoinGives, ChooseGives, PrefixGives, SequenceGives, NegateGives, StarGives, StarAnswers, CompileGives, CompileAnswers};
+ghost use Rattle.requests.specs.Claims.{OneAnswer, SomeAnswer, NarrowGives, MakeGives, JoinGives, ChooseGives, PrefixGives, SequenceGives, NegateGives, StarGives, StarAnswers, CompileGives, CompileAnswers};
 
 // The rules give one diagram and one list of requests, whatever the operands are.
 pub fn the_rules_never_disagree()
     ensures { λ _. ⌜ OneAnswer ⌝ }
+{}
+
+// They give some diagram too, with laws of weights or without.
+pub fn the_rules_cover_all_operands()
+    ensures { λ _. ⌜ SomeAnswer ⌝ }
 {}
 
 // From here on: on well-formed operands the rules give what the construction is worked out to,
