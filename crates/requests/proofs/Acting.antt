@@ -30,6 +30,7 @@ forget-one n (Some m) = go (decide m n)
   where
     C : Bool → Option ℕ
     C b = cond b None (Some m)
+
     go : (d : Dec (m ≡ n)) → choice d None (Some m) ≡ cond (eqb m n) None (Some m)
     go (yes e) = sym (ap C (truth (eqb m n) (subst (λ (k : ℕ). T (eqb m k)) e (eqb-refl m))))
     go (no h) = sym (ap C (falsity (eqb m n) (λ t. h (eqb→eq m n t))))
@@ -42,18 +43,20 @@ narrow-by-one : (a : Action) (f n : ℕ) → narrow-by (known f n) a ≡ narrow-
 narrow-by-one [] f n = refl
 narrow-by-one (x ∷ a) zero n =
     ap₂ {C = Action} (λ (u : Option ℕ) (v : Action). u ∷ v) (ap (λ (k : Option ℕ). forget k x) (known-there 0 n) ∙ forget-one n x)
-      (nothing-known (λ g. known 0 n (suc g)) a (λ g. known-else 0 n (suc g) (positive g)))
+    (nothing-known (λ g. known 0 n (suc g)) a (λ g. known-else 0 n (suc g) (positive g)))
   where
     positive : (g : ℕ) → suc g ≡ 0 → ⊥
     positive g e = omega arith
 narrow-by-one (x ∷ a) (suc f) n =
     ap₂ {C = Action} (λ (u : Option ℕ) (v : Action). u ∷ v) (ap (λ (k : Option ℕ). forget k x) (known-else (suc f) n 0 (positive f)))
-      (ap (λ (p : Facts). narrow-by p a) (fun-ext (λ g. moved g (decide g f))) ∙ narrow-by-one a f n)
+    (ap (λ (p : Facts). narrow-by p a) (fun-ext (λ g. moved g (decide g f))) ∙ narrow-by-one a f n)
   where
     positive : (g : ℕ) → 0 ≡ suc g → ⊥
     positive g e = omega arith
+
     same : {g : ℕ} → suc g ≡ suc f → g ≡ f
     same e = omega arith
+
     moved : (g : ℕ) → Dec (g ≡ f) → known (suc f) n (suc g) ≡ known f n g
     moved g (yes e) = choice-yes (decide (suc g) (suc f)) (Some n) None (ap suc e) ∙ sym (choice-yes (decide g f) (Some n) None e)
     moved g (no h) = known-else (suc f) n (suc g) (λ e. h (same e)) ∙ sym (known-else f n g h)

@@ -28,7 +28,8 @@ rules-agree o =
       sequence-once = λ d e r s a b p q. sequences-same p q;
       negate-once = λ d r s a b p q. negates-same p q;
       star-once = λ d r s a b p q. stars-same p q;
-      compile-once = λ t r s a b p q. compiled-same p q }
+      compile-once = λ t r s a b p q. compiled-same p q;
+    }
 
 pub rules-cover : (o : Ops) → RulesCover o
 rules-cover o =
@@ -39,7 +40,8 @@ rules-cover o =
       choose-covers = choose-total o;
       prefix-covers = prefix-total o;
       sequence-covers = λ d e. sequence-total o e d;
-      negate-covers = negate-total o }
+      negate-covers = negate-total o;
+    }
 
 gives : (o : Ops) (R : Diagram → List Request → Type 0) (r : Diagram) → AtMostOne R → Given o R r → Gives o R r
 gives o R r once g =
@@ -47,7 +49,8 @@ gives o R r once g =
       asks = g .asks;
       by-the-rules = g .built;
       nothing-else = λ s b h. once s r b (g .asks) h (g .built);
-      records-formed = g .sound }
+      records-formed = g .sound;
+    }
 
 pub narrow-gives : NarrowGives
 narrow-gives o L d h f n = gives o _ _ (rules-agree o .narrow-once d f n) (narrow-given L d f n h)
@@ -55,7 +58,7 @@ narrow-gives o L d h f n = gives o _ _ (rules-agree o .narrow-once d f n) (narro
 pub make-gives : MakeGives
 make-gives o L f n p q y z h k t u =
     gives o _ _ (rules-agree o .make-once f n y z)
-      (make-given L f n y z (record { exists = p; legal = q; yes-formed = h; no-formed = k; yes-fields = t; no-after = u }))
+    (make-given L f n y z (record { exists = p; legal = q; yes-formed = h; no-formed = k; yes-fields = t; no-after = u }))
 
 pub join-gives : JoinGives
 join-gives o L d e h k = gives o _ _ (rules-agree o .join-once d e) (join-given L d e h k)

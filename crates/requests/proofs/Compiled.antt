@@ -46,7 +46,8 @@ module _ {o : Ops} (L : Laws o) where
         yes-formed = p;
         no-formed = q;
         yes-fields = negate-tests (λ g m. f ≤ g) y (weaker f y (h .0 .yes-greater-fields));
-        no-after = negate-tests (After f n) z (h .0 .no-greater-tests) }
+        no-after = negate-tests (After f n) z (h .0 .no-greater-tests);
+      }
 
   negate-formed : (d : Diagram) → Formed o d → Formed o (negate o d)
   unfolding negate
@@ -71,7 +72,8 @@ module _ {o : Ops} (L : Laws o) where
       record {
         asks = P .asks ++ (Q .asks ++ M .asks);
         built = negates-node (P .built) (Q .built) (M .built);
-        sound = sound-three o (P .asks) (Q .asks) (M .asks) (P .sound) (Q .sound) (M .sound) }
+        sound = sound-three o (P .asks) (Q .asks) (M .asks) (P .sound) (Q .sound) (M .sound);
+      }
     where
       M : Given o (Makes o f n (negate o y) (negate o z)) (make o f n (negate o y) (negate o z))
       M = make-given L f n (negate o y) (negate o z) (negate-ready f n y z h (negate-formed y (h .1)) (negate-formed z (h .2)))
@@ -104,14 +106,15 @@ module _ {o : Ops} (L : Laws o) where
     round-last : (k m : ℕ) → round o d (suc k) ≡ round o d k → round o d m ≡ round o d k → Given o (Rounds o d (round o d k)) (round o d m)
     round-last k m e r =
         subst (Given o (Rounds o d (round o d k))) (sym r)
-          (record { asks = after k .asks ++ next-given k .asks; built = rounds-end (after k .built) (next-given k .built) e; sound = sound-two o (after k .asks) (next-given k .asks) (after k .sound) (next-given k .sound) })
+        (record { asks = after k .asks ++ next-given k .asks; built = rounds-end (after k .built) (next-given k .built) e; sound = sound-two o (after k .asks) (next-given k .asks) (after k .sound) (next-given k .sound) })
 
     round-more : (k m : ℕ) → round o d (suc k) ≢ round o d k → Given o (Rounds o d (round o d (suc k))) (round o d m) → Given o (Rounds o d (round o d k)) (round o d m)
     round-more k m h R =
         record {
           asks = after k .asks ++ (next-given k .asks ++ R .asks);
           built = rounds-on (after k .built) (next-given k .built) h (R .built);
-          sound = sound-three o (after k .asks) (next-given k .asks) (R .asks) (after k .sound) (next-given k .sound) (R .sound) }
+          sound = sound-three o (after k .asks) (next-given k .asks) (R .asks) (after k .sound) (next-given k .sound) (R .sound);
+        }
 
     -- i rounds after round k the rounds have ended
     rounds-given : (i k m : ℕ) → i + k ≡ m → round o d m ≡ round o d (suc m) → Given o (Rounds o d (round o d k)) (round o d m)
@@ -119,12 +122,14 @@ module _ {o : Ops} (L : Laws o) where
       where
         none : 0 + k ≡ m → m ≡ k
         none r = omega arith
+
         none-next : 0 + k ≡ m → suc k ≡ suc m
         none-next r = omega arith
     rounds-given (suc i) k m e h = go (equal-diagrams (round o d (suc k)) (round o d k)) (rounds-given i (suc k) m (moved e) h)
       where
         moved : suc i + k ≡ m → i + suc k ≡ m
         moved r = omega arith
+
         go : Dec (round o d (suc k) ≡ round o d k) → Given o (Rounds o d (round o d (suc k))) (round o d m) → Given o (Rounds o d (round o d k)) (round o d m)
         go (yes q) R = round-last k m q (repeated (suc i) k m e q)
         go (no q) R = round-more k m q R
@@ -148,12 +153,14 @@ module _ {o : Ops} (L : Laws o) where
 
   test-good : (f n : ℕ) → f < fields → LegalValue f n → Good (Test f n) (test-diagram o f n)
   unfolding Good
-  test-good f n p q =
-      (record {
-        asks = leaf-records (pass-cells o) ++ (node f n (pass-diagram o) drop-diagram ∷ []);
-        built = compiled-test;
-        sound = sound-two o (leaf-records (pass-cells o)) (node f n (pass-diagram o) drop-diagram ∷ []) pass-sound (test-formed L f n p q, tt) },
-       test-formed L f n p q)
+  test-good f n p q = (
+    record {
+      asks = leaf-records (pass-cells o) ++ (node f n (pass-diagram o) drop-diagram ∷ []);
+      built = compiled-test;
+      sound = sound-two o (leaf-records (pass-cells o)) (node f n (pass-diagram o) drop-diagram ∷ []) pass-sound (test-formed L f n p q, tt);
+    },
+    test-formed L f n p q,
+  )
 
   not-good : (p : Policy) (d : Diagram) → Good p d → Good (Not p) (negate o d)
   unfolding Good
@@ -164,22 +171,26 @@ module _ {o : Ops} (L : Laws o) where
   union-good : (p q : Policy) (d e : Diagram) → Good p d → Good q e → Good (Union p q) (join o d e)
   unfolding Good
   union-good p q d e (P, h) (Q, k) =
-      let J = join-given L d e h k in
-      (record {
-        asks = P .asks ++ (Q .asks ++ J .asks);
-        built = compiled-union (P .built) (Q .built) (J .built);
-        sound = sound-three o (P .asks) (Q .asks) (J .asks) (P .sound) (Q .sound) (J .sound) },
-       joined L d e h k .formed)
+      let J = join-given L d e h k in (
+        record {
+          asks = P .asks ++ (Q .asks ++ J .asks);
+          built = compiled-union (P .built) (Q .built) (J .built);
+          sound = sound-three o (P .asks) (Q .asks) (J .asks) (P .sound) (Q .sound) (J .sound);
+        },
+        joined L d e h k .formed,
+      )
 
   sequence-good : (p q : Policy) (d e : Diagram) → Good p d → Good q e → Good (Sequence p q) (sequence o d e)
   unfolding Good
   sequence-good p q d e (P, h) (Q, k) =
-      let S = sequence-given L e k d h in
-      (record {
-        asks = P .asks ++ (Q .asks ++ S .asks);
-        built = compiled-sequence (P .built) (Q .built) (S .built);
-        sound = sound-three o (P .asks) (Q .asks) (S .asks) (P .sound) (Q .sound) (S .sound) },
-       sequenced L e k d h .formed)
+      let S = sequence-given L e k d h in (
+        record {
+          asks = P .asks ++ (Q .asks ++ S .asks);
+          built = compiled-sequence (P .built) (Q .built) (S .built);
+          sound = sound-three o (P .asks) (Q .asks) (S .asks) (P .sound) (Q .sound) (S .sound);
+        },
+        sequenced L e k d h .formed,
+      )
 
   star-good : (p : Policy) (d : Diagram) (k : ℕ) → round o d k ≡ round o d (suc k) → Good p d → Good (Star p) (round o d k)
   unfolding Good

@@ -27,22 +27,26 @@ module _ {o : Ops} (L : Laws o) (s : Action) (w : ℕ) (hs : ActionFormed s) (hw
       record {
         asks = P .asks ++ (Q .asks ++ M .asks);
         built = prefixes-both e (P .built) (Q .built) (M .built);
-        sound = sound-three o (P .asks) (Q .asks) (M .asks) (P .sound) (Q .sound) (M .sound) }
+        sound = sound-three o (P .asks) (Q .asks) (M .asks) (P .sound) (Q .sound) (M .sound);
+      }
     where
       Y : Prefixed o s w y (prefix o s w y)
       Y = prefixed L s w hs hw y (h .1)
+
       Z : Prefixed o s w z (prefix o s w z)
       Z = prefixed L s w hs hw z (h .2)
+
       M : Given o (Makes o f n (prefix o s w y) (prefix o s w z)) (make o f n (prefix o s w y) (prefix o s w z))
       M =
           make-given L f n (prefix o s w y) (prefix o s w z)
-            (record {
-              exists = h .0 .field-exists;
-              legal = h .0 .value-legal;
-              yes-formed = Y .formed;
-              no-formed = Z .formed;
-              yes-fields = Y .tests (λ g m. f ≤ g) (weaker f y (h .0 .yes-greater-fields));
-              no-after = Z .tests (After f n) (h .0 .no-greater-tests) })
+          (record {
+            exists = h .0 .field-exists;
+            legal = h .0 .value-legal;
+            yes-formed = Y .formed;
+            no-formed = Z .formed;
+            yes-fields = Y .tests (λ g m. f ≤ g) (weaker f y (h .0 .yes-greater-fields));
+            no-after = Z .tests (After f n) (h .0 .no-greater-tests);
+          })
   prefix-node-given f n y z h P Q (Some m) e = go (decide m n)
     where
       go : (d : Dec (m ≡ n)) → Given o (Prefixes o s w (Node f n y z)) (choice d (prefix o s w y) (prefix o s w z))
@@ -61,10 +65,12 @@ module _ {o : Ops} (L : Laws o) (e : Diagram) (he : Formed o e) where
       record {
         asks = P .asks ++ (J .asks ++ F .asks);
         built = follows-next (P .built) (J .built) (F .built);
-        sound = sound-three o (P .asks) (J .asks) (F .asks) (P .sound) (J .sound) (F .sound) }
+        sound = sound-three o (P .asks) (J .asks) (F .asks) (P .sound) (J .sound) (F .sound);
+      }
     where
       P : Given o (Prefixes o (c .0) (c .1) e) (prefix o (c .0) (c .1) e)
       P = prefix-given L (c .0) (c .1) (h .action) (h .weight) e he
+
       J : Given o (Joins o d (prefix o (c .0) (c .1) e)) (join o d (prefix o (c .0) (c .1) e))
       J = join-given L d (prefix o (c .0) (c .1) e) k (prefixed L (c .0) (c .1) (h .action) (h .weight) e he .formed)
 
@@ -81,7 +87,8 @@ module _ {o : Ops} (L : Laws o) (e : Diagram) (he : Formed o e) where
       record {
         asks = P .asks ++ (Q .asks ++ C .asks);
         built = sequences-node (P .built) (Q .built) (C .built);
-        sound = sound-three o (P .asks) (Q .asks) (C .asks) (P .sound) (Q .sound) (C .sound) }
+        sound = sound-three o (P .asks) (Q .asks) (C .asks) (P .sound) (Q .sound) (C .sound);
+      }
     where
       C : Given o (Chooses o f n (sequence o y e) (sequence o z e)) (choose o f n (sequence o y e) (sequence o z e))
       C = choose-given L f n (h .0 .field-exists) (h .0 .value-legal) (sequence o y e) (sequence o z e) (sequenced L e he y (h .1) .formed) (sequenced L e he z (h .2) .formed)

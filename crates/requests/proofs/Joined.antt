@@ -40,7 +40,7 @@ module _ {o : Ops} (L : Laws o) where
       go : Splitting o f n d → Given o (At o d f n) (at o d f n)
       go (rooted y z e a b) =
           subst (λ (x : Diagram). Given o (At o x f n) (at o d f n)) (sym e)
-            (subst (Given o (At o (Node f n y z) f n)) (sym a) (record { asks = []; built = at-root refl refl; sound = tt }))
+          (subst (Given o (At o (Node f n y z) f n)) (sym a) (record { asks = []; built = at-root refl refl; sound = tt }))
       go (unrooted u a b) =
           let N = narrow-given L d f n h in
           subst (Given o (At o d f n)) (sym a) (record { asks = N .asks; built = at-other (not-root f n d u) (N .built); sound = N .sound })
@@ -48,36 +48,43 @@ module _ {o : Ops} (L : Laws o) where
   joined-leaves : (l m : List Cell) → Formed o (Leaf l) → Formed o (Leaf m) → Given o (Joins o (Leaf l) (Leaf m)) (join o (Leaf l) (Leaf m))
   joined-leaves l m p q =
       subst (Given o (Joins o (Leaf l) (Leaf m))) (sym (join-of-leaves L l m))
-        (record { asks = leaf-records (collect o (l ++ m)); built = joins-leaves; sound = leaf-sound o (collect o (l ++ m)) (subst (Formed o) (join-of-leaves L l m) (joined L (Leaf l) (Leaf m) p q .formed)) })
+      (record { asks = leaf-records (collect o (l ++ m)); built = joins-leaves; sound = leaf-sound o (collect o (l ++ m)) (subst (Formed o) (join-of-leaves L l m) (joined L (Leaf l) (Leaf m) p q .formed)) })
 
   joined-split : (d e : Diagram) (f n : ℕ) → Formed o d → Formed o e → first-root (root d) (root e) ≡ Some (f, n) → From f n d → From f n e → Rooted f n d ⊎ Rooted f n e → Given o (Joins o (at o d f n) (at o e f n)) (join o (at o d f n) (at o e f n)) → Given o (Joins o (off d f n) (off e f n)) (join o (off d f n) (off e f n)) → Given o (Joins o d e) (join o d e)
   joined-split d e f n p q c i j r A B =
       subst (Given o (Joins o d e)) (sym (join-of-split L d e f n c r))
-        (record {
-          asks = P .asks ++ (Q .asks ++ (A .asks ++ (B .asks ++ M .asks)));
-          built = joins-split c (P .built) (Q .built) (A .built) (B .built) (M .built);
-          sound = sound-two o (P .asks) _ (P .sound) (sound-two o (Q .asks) _ (Q .sound) (sound-three o (A .asks) (B .asks) (M .asks) (A .sound) (B .sound) (M .sound))) })
+      (record {
+        asks = P .asks ++ (Q .asks ++ (A .asks ++ (B .asks ++ M .asks)));
+        built = joins-split c (P .built) (Q .built) (A .built) (B .built) (M .built);
+        sound = sound-two o (P .asks) _ (P .sound) (sound-two o (Q .asks) _ (Q .sound) (sound-three o (A .asks) (B .asks) (M .asks) (A .sound) (B .sound) (M .sound)));
+      })
     where
       P : Given o (At o d f n) (at o d f n)
       P = at-given f n d p
+
       Q : Given o (At o e f n) (at o e f n)
       Q = at-given f n e q
+
       legal : (f < fields) × LegalValue f n
       legal = rooted-either (λ g m. (g < fields) × LegalValue g m) f n d e r (formed-tests-legal o d p) (formed-tests-legal o e q)
+
       Y : Joined o (at o d f n) (at o e f n) (join o (at o d f n) (at o e f n))
       Y = joined L (at o d f n) (at o e f n) (at-formed L f n d p) (at-formed L f n e q)
+
       Z : Joined o (off d f n) (off e f n) (join o (off d f n) (off e f n))
       Z = joined L (off d f n) (off e f n) (off-formed L f n d p) (off-formed L f n e q)
+
       M : Given o (Makes o f n (join o (at o d f n) (at o e f n)) (join o (off d f n) (off e f n))) (make o f n (join o (at o d f n) (at o e f n)) (join o (off d f n) (off e f n)))
       M =
           make-given L f n (join o (at o d f n) (at o e f n)) (join o (off d f n) (off e f n))
-            (record {
-              exists = legal .0;
-              legal = legal .1;
-              yes-formed = Y .formed;
-              no-formed = Z .formed;
-              yes-fields = weaker f (join o (at o d f n) (at o e f n)) (Y .tests (λ g m. f < g) (at-greater L f n d p i) (at-greater L f n e q j));
-              no-after = Z .tests (After f n) (off-after L f n d p i) (off-after L f n e q j) })
+          (record {
+            exists = legal .0;
+            legal = legal .1;
+            yes-formed = Y .formed;
+            no-formed = Z .formed;
+            yes-fields = weaker f (join o (at o d f n) (at o e f n)) (Y .tests (λ g m. f < g) (at-greater L f n d p i) (at-greater L f n e q j));
+            no-after = Z .tests (After f n) (off-after L f n d p i) (off-after L f n e q j);
+          })
 
   join-given-by : (k : ℕ) (d e : Diagram) → extent d + extent e ≤ k → Formed o d → Formed o e → Given o (Joins o d e) (join o d e)
   join-given-by zero d e b p q = absurd (none (extent-positive L d) b)
@@ -90,8 +97,8 @@ module _ {o : Ops} (L : Laws o) where
       go (leaves l m i j c) ih = subst₂ (λ (x y : Diagram). Given o (Joins o x y) (join o x y)) (sym i) (sym j) (joined-leaves l m (subst (Formed o) i p) (subst (Formed o) j q))
       go (split f n c i j r) ih =
           joined-split d e f n p q c i j r
-            (ih (at o d f n) (at o e f n) (shrinks .0) (at-formed L f n d p) (at-formed L f n e q))
-            (ih (off d f n) (off e f n) (shrinks .1) (off-formed L f n d p) (off-formed L f n e q))
+          (ih (at o d f n) (at o e f n) (shrinks .0) (at-formed L f n d p) (at-formed L f n e q))
+          (ih (off d f n) (off e f n) (shrinks .1) (off-formed L f n d p) (off-formed L f n e q))
         where
           shrinks : (extent (at o d f n) + extent (at o e f n) ≤ k) × (extent (off d f n) + extent (off e f n) ≤ k)
           shrinks = fits (split-shrinks L f n d e r)
@@ -113,13 +120,14 @@ module _ {o : Ops} (L : Laws o) where
         M : Given o (Makes o f n y (off z f n)) (make o f n y (off z f n))
         M =
             make-given L f n y (off z f n)
-              (record {
-                exists = f-exists;
-                legal = n-legal;
-                yes-formed = p;
-                no-formed = off-formed L f n z q;
-                yes-fields = tests-fields o f n y p i;
-                no-after = off-after L f n z q j })
+            (record {
+              exists = f-exists;
+              legal = n-legal;
+              yes-formed = p;
+              no-formed = off-formed L f n z q;
+              yes-fields = tests-fields o f n y p i;
+              no-after = off-after L f n z q j;
+            })
 
     -- the least test is another
     module _ (y z : Diagram) (p : Formed o y) (q : Formed o z) (g m : ℕ) (e : earlier (earlier (f, n) (root y)) (root z) ≡ (g, m)) (a : After g m f n) (i : From g m y) (j : From g m z) (r : Rooted g m y ⊎ Rooted g m z) (C : Given o (Chooses o f n (off y g m) (off z g m)) (choose o f n (off y g m) (off z g m))) where
@@ -135,41 +143,49 @@ module _ {o : Ops} (L : Laws o) where
             yes-formed = s;
             no-formed = K .formed;
             yes-fields = t;
-            no-after = K .tests (After g m) a (off-after L g m y p i) (off-after L g m z q j) }
+            no-after = K .tests (After g m) a (off-after L g m y p i) (off-after L g m z q j);
+          }
 
       chosen-same-field : g ≡ f → Given o (Chooses o f n y z) (choose o f n y z)
       chosen-same-field h =
           subst (Given o (Chooses o f n y z)) (sym (choose-same-field L f n y z g m e a r h))
-            (record {
-              asks = W .asks ++ (C .asks ++ M .asks);
-              built = chooses-same-field e h (λ k. after-unlike g m f n a (sym h) (sym k)) (W .built) (C .built) (M .built);
-              sound = sound-three o (W .asks) (C .asks) (M .asks) (W .sound) (C .sound) (M .sound) })
+          (record {
+            asks = W .asks ++ (C .asks ++ M .asks);
+            built = chooses-same-field e h (λ k. after-unlike g m f n a (sym h) (sym k)) (W .built) (C .built) (M .built);
+            sound = sound-three o (W .asks) (C .asks) (M .asks) (W .sound) (C .sound) (M .sound);
+          })
         where
           W : Given o (At o z g m) (at o z g m)
           W = at-given g m z q
+
           M : Given o (Makes o g m (at o z g m) (choose o f n (off y g m) (off z g m))) (make o g m (at o z g m) (choose o f n (off y g m) (off z g m)))
           M = make-given L g m (at o z g m) (choose o f n (off y g m) (off z g m)) (ready-at (at o z g m) (at-formed L g m z q) (weaker g (at o z g m) (at-greater L g m z q j)))
 
       chosen-other-field : g ≢ f → Given o (Chooses o f n (at o y g m) (at o z g m)) (choose o f n (at o y g m) (at o z g m)) → Given o (Chooses o f n y z) (choose o f n y z)
       chosen-other-field h B =
           subst (Given o (Chooses o f n y z)) (sym (choose-other-field L f n y z g m e a r h))
-            (record {
-              asks = V .asks ++ (W .asks ++ (B .asks ++ (C .asks ++ M .asks)));
-              built = chooses-other-field e h (V .built) (W .built) (B .built) (C .built) (M .built);
-              sound = sound-two o (V .asks) _ (V .sound) (sound-two o (W .asks) _ (W .sound) (sound-three o (B .asks) (C .asks) (M .asks) (B .sound) (C .sound) (M .sound))) })
+          (record {
+            asks = V .asks ++ (W .asks ++ (B .asks ++ (C .asks ++ M .asks)));
+            built = chooses-other-field e h (V .built) (W .built) (B .built) (C .built) (M .built);
+            sound = sound-two o (V .asks) _ (V .sound) (sound-two o (W .asks) _ (W .sound) (sound-three o (B .asks) (C .asks) (M .asks) (B .sound) (C .sound) (M .sound)));
+          })
         where
           V : Given o (At o y g m) (at o y g m)
           V = at-given g m y p
+
           W : Given o (At o z g m) (at o z g m)
           W = at-given g m z q
+
           X : Diagram
           X = choose o f n (at o y g m) (at o z g m)
+
           K : Chosen o f n (at o y g m) (at o z g m) X
           K = chosen L f n f-exists n-legal (at o y g m) (at o z g m) (at-formed L g m y p) (at-formed L g m z q)
+
           M : Given o (Makes o g m X (choose o f n (off y g m) (off z g m))) (make o g m X (choose o f n (off y g m) (off z g m)))
           M =
               make-given L g m X (choose o f n (off y g m) (off z g m))
-                (ready-at X (K .formed) (K .tests (λ h k. g ≤ h) (after-field g m f n a) (weaker g (at o y g m) (at-greater L g m y p i)) (weaker g (at o z g m) (at-greater L g m z q j))))
+              (ready-at X (K .formed) (K .tests (λ h k. g ≤ h) (after-field g m f n a) (weaker g (at o y g m) (at-greater L g m y p i)) (weaker g (at o z g m) (at-greater L g m z q j))))
 
     choose-given-by : (k : ℕ) (y z : Diagram) → extent y + extent z ≤ k → Formed o y → Formed o z → Given o (Chooses o f n y z) (choose o f n y z)
     choose-given-by zero y z b p q = absurd (none (extent-positive L y) b)
@@ -187,8 +203,10 @@ module _ {o : Ops} (L : Laws o) where
               where
                 fits : (extent (at o y g m) + extent (at o z g m) < extent y + extent z) × (extent (off y g m) + extent (off z g m) < extent y + extent z) → (extent (at o y g m) + extent (at o z g m) ≤ k) × (extent (off y g m) + extent (off z g m) ≤ k)
                 fits h = (omega arith, omega arith)
+
             C : Given o (Chooses o f n (off y g m) (off z g m)) (choose o f n (off y g m) (off z g m))
             C = ih (off y g m) (off z g m) (shrinks .1) (off-formed L g m y p) (off-formed L g m z q)
+
             inner : Dec (g ≡ f) → Given o (Chooses o f n y z) (choose o f n y z)
             inner (yes h) = chosen-same-field y z p q g m e a i j r C h
             inner (no h) = chosen-other-field y z p q g m e a i j r C h (ih (at o y g m) (at o z g m) (shrinks .0) (at-formed L g m y p) (at-formed L g m z q))

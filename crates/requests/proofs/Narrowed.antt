@@ -53,18 +53,21 @@ module _ {o : Ops} (L : Laws o) where
     where
       Y : Given o (Narrows o y f n) (narrow o y f n)
       Y = ih y f n i (h .yes-formed)
+
       Z : Given o (Narrows o z f n) (narrow o z f n)
       Z = ih z f n j (h .no-formed)
+
       go : Making L f n y z → Given o (Makes o f n y z) (make o f n y z)
       go (alike e r) =
           subst (Given o (Makes o f n y z)) (sym r)
-            (record { asks = Y .asks ++ Z .asks; built = makes-no (Y .built) (Z .built) e; sound = sound-two o (Y .asks) (Z .asks) (Y .sound) (Z .sound) })
+          (record { asks = Y .asks ++ Z .asks; built = makes-no (Y .built) (Z .built) e; sound = sound-two o (Y .asks) (Z .asks) (Y .sound) (Z .sound) })
       go (apart e r) =
           subst (Given o (Makes o f n y z)) (sym r)
-            (record {
-              asks = Y .asks ++ (Z .asks ++ (node f n (narrow o y f n) z ∷ []));
-              built = makes-node (Y .built) (Z .built) e;
-              sound = sound-three o (Y .asks) (Z .asks) (node f n (narrow o y f n) z ∷ []) (Y .sound) (Z .sound) (made, tt) })
+          (record {
+            asks = Y .asks ++ (Z .asks ++ (node f n (narrow o y f n) z ∷ []));
+            built = makes-node (Y .built) (Z .built) e;
+            sound = sound-three o (Y .asks) (Z .asks) (node f n (narrow o y f n) z ∷ []) (Y .sound) (Z .sound) (made, tt);
+          })
         where
           made : Formed o (Node f n (narrow o y f n) z)
           made = subst (Formed o) r (make-formed L f n y z (h .exists) (h .legal) (h .yes-formed) (h .no-formed) (h .yes-fields) (h .no-after))
@@ -100,7 +103,8 @@ module _ {o : Ops} (L : Laws o) where
           yes-formed = formed-narrows L y (known f n) (h .1);
           no-formed = formed-narrows L z (known f n) (h .2);
           yes-fields = tests-map _ _ (λ j i t. weaker (t .0)) (narrow o y f n) (tests-narrows (λ j i. g < j) o y (known f n) (h .0 .yes-greater-fields));
-          no-after = tests-map _ _ (λ j i t. t .0) (narrow o z f n) (tests-narrows (After g m) o z (known f n) (h .0 .no-greater-tests)) }
+          no-after = tests-map _ _ (λ j i t. t .0) (narrow o z f n) (tests-narrows (After g m) o z (known f n) (h .0 .no-greater-tests));
+        }
       where
         weaker : {j : ℕ} → g < j → g ≤ j
         weaker l = omega arith
@@ -109,17 +113,21 @@ module _ {o : Ops} (L : Laws o) where
     across : g ≢ f → make o g m (narrow o y f n) (narrow o z f n) ≡ narrow o (Node g m y z) f n → Given o (Narrows o (Node g m y z) f n) (narrow o (Node g m y z) f n)
     across q e =
         subst (Given o (Narrows o (Node g m y z) f n)) e
-          (record {
-            asks = Y .asks ++ (Z .asks ++ M .asks);
-            built = narrows-both q (Y .built) (Z .built) (M .built);
-            sound = sound-three o (Y .asks) (Z .asks) (M .asks) (Y .sound) (Z .sound) (M .sound) })
+        (record {
+          asks = Y .asks ++ (Z .asks ++ M .asks);
+          built = narrows-both q (Y .built) (Z .built) (M .built);
+          sound = sound-three o (Y .asks) (Z .asks) (M .asks) (Y .sound) (Z .sound) (M .sound);
+        })
       where
         Y : Given o (Narrows o y f n) (narrow o y f n)
         Y = ih y f n yes-small (h .1)
+
         Z : Given o (Narrows o z f n) (narrow o z f n)
         Z = ih z f n no-small (h .2)
+
         shrunk : {u v : ℕ} → u ≤ v → v ≤ k → u ≤ k
         shrunk i j = omega arith
+
         M : Given o (Makes o g m (narrow o y f n) (narrow o z f n)) (make o g m (narrow o y f n) (narrow o z f n))
         M = make-given-by k ih g m (narrow o y f n) (narrow o z f n) (shrunk (extent-narrows o y (known f n)) yes-small) (shrunk (extent-narrows o z (known f n)) no-small) ready
 
@@ -129,9 +137,11 @@ module _ {o : Ops} (L : Laws o) where
         when-merged : g ≢ f → narrows o y (also (known f n) (known g m)) ≡ narrows o z (also (known f n) (known g m)) → narrow o (Node g m y z) f n ≡ (narrow o z f n) → Making L g m (narrow o y f n) (narrow o z f n) → make o g m (narrow o y f n) (narrow o z f n) ≡ narrow o (Node g m y z) f n
         when-merged q e r (alike e′ r′) = r′ ∙ sym r
         when-merged q e r (apart e′ r′) = absurd (e′ (twice y (h .1) q ∙ e ∙ sym (twice z (h .2) q)))
+
         when-kept : g ≢ f → (narrows o y (also (known f n) (known g m)) ≡ narrows o z (also (known f n) (known g m)) → ⊥) → narrow o (Node g m y z) f n ≡ Node g m (narrows o y (also (known f n) (known g m))) (narrow o z f n) → Making L g m (narrow o y f n) (narrow o z f n) → make o g m (narrow o y f n) (narrow o z f n) ≡ narrow o (Node g m y z) f n
         when-kept q e r (alike e′ r′) = absurd (e (sym (twice y (h .1) q) ∙ e′ ∙ twice z (h .2) q))
         when-kept q e r (apart e′ r′) = r′ ∙ ap (λ (x : Diagram). Node g m x (narrow o z f n)) (twice y (h .1) q) ∙ sym r
+
         go : Narrowing o (known f n) g m y z → Given o (Narrows o (Node g m y z) f n) (narrow o (Node g m y z) f n)
         go (yes-side e r) =
             let q = known-only f n g m e in
@@ -146,7 +156,7 @@ module _ {o : Ops} (L : Laws o) where
   leaf-given : (l : List Cell) (f n : ℕ) → Formed o (Leaf l) → Given o (Narrows o (Leaf l) f n) (narrow o (Leaf l) f n)
   leaf-given l f n h =
       subst (Given o (Narrows o (Leaf l) f n)) (sym (narrow-of-leaf o l f n))
-        (record { asks = leaf-records (narrow-leaf o l f n); built = narrows-leaf; sound = leaf-sound o (narrow-leaf o l f n) (subst (Formed o) (narrow-of-leaf o l f n) (formed-narrows L (Leaf l) (known f n) h)) })
+      (record { asks = leaf-records (narrow-leaf o l f n); built = narrows-leaf; sound = leaf-sound o (narrow-leaf o l f n) (subst (Formed o) (narrow-of-leaf o l f n) (formed-narrows L (Leaf l) (known f n) h)) })
 
   narrow-given-by : (k : ℕ) → NarrowsUpTo k
   narrow-given-by zero d f n b h = absurd (none (extent-positive L d) b)
@@ -170,5 +180,6 @@ module _ {o : Ops} (L : Laws o) where
     where
       left : (i j : ℕ) → i ≤ i + j
       left i j = omega arith
+
       right : (i j : ℕ) → j ≤ i + j
       right i j = omega arith

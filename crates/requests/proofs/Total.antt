@@ -47,15 +47,19 @@ module _ (o : Ops) where
     where
       left : extent y ≤ k
       left = omega arith
+
       right : extent z ≤ k
       right = omega arith
+
       no-side : g ≡ f → m ≢ n → Within (extent z) (Narrows o z f n) → Within (1 + (extent y + extent z)) (Narrows o (Node g m y z) f n)
       no-side e h (r, a, p, s) = (r, a, narrows-no e h p, omega arith)
+
       both-sides : g ≢ f → Within (extent y) (Narrows o y f n) → Within (extent z) (Narrows o z f n) → Within (1 + (extent y + extent z)) (Narrows o (Node g m y z) f n)
       both-sides h (v, a, p, s) (w, c, q, t) = finish (make-total-by k ih g m v w (omega arith) (omega arith))
         where
           finish : Within (1 + (extent v + extent w)) (Makes o g m v w) → Within (1 + (extent y + extent z)) (Narrows o (Node g m y z) f n)
           finish (r, u, x, i) = (r, _, narrows-both h p q x, omega arith)
+
       go : Dec (g ≡ f) → Dec (m ≡ n) → Within (1 + (extent y + extent z)) (Narrows o (Node g m y z) f n)
       go (yes e) (yes q) = (y, [], narrows-yes e q, omega arith)
       go (yes e) (no h) = no-side e h (ih z f n right)
@@ -88,6 +92,7 @@ module _ (o : Ops) where
     where
       left : (i j : ℕ) → i ≤ i + j
       left i j = omega arith
+
       right : (i j : ℕ) → j ≤ i + j
       right i j = omega arith
 
@@ -112,6 +117,7 @@ module _ (o : Ops) where
     where
       smaller : (i j : ℕ) → j < 1 + (i + j)
       smaller i j = omega arith
+
       go : (δ : Dec ((g ≡ f) × (m ≡ n))) → Less f n (Node g m y z) (choice δ z (Node g m y z))
       go (yes e) = (omega arith, λ q. smaller (extent y) (extent z))
       go (no h) = (omega arith, λ q. absurd (h q))

@@ -45,8 +45,8 @@ module _ {o : Ops} (L : Laws o) where
           let s = split-fits f n i d e r b in
           let t = split-fits f n j d e r c in
           ap (λ (x : Option Tested). join-at o (join-by o i) x d e) h
-            ∙ ap₂ (make o f n) (ih (at o d f n) (at o e f n) (s .0) (t .0)) (ih (off d f n) (off e f n) (s .1) (t .1))
-            ∙ sym (ap (λ (x : Option Tested). join-at o (join-by o j) x d e) h)
+          ∙ ap₂ (make o f n) (ih (at o d f n) (at o e f n) (s .0) (t .0)) (ih (off d f n) (off e f n) (s .1) (t .1))
+          ∙ sym (ap (λ (x : Option Tested). join-at o (join-by o j) x d e) h)
 
   join-whole : (k : ℕ) (d e : Diagram) → extent d + extent e ≤ k → join-by o k d e ≡ join o d e
   unfolding join
@@ -62,8 +62,8 @@ module _ {o : Ops} (L : Laws o) where
       let k = extent d + extent e in
       let s = split-fits f n k d e r (more k) in
       sym (join-whole (suc k) d e (more k))
-        ∙ ap (λ (x : Option Tested). join-at o (join-by o k) x d e) h
-        ∙ ap₂ (make o f n) (join-whole k (at o d f n) (at o e f n) (s .0)) (join-whole k (off d f n) (off e f n) (s .1))
+      ∙ ap (λ (x : Option Tested). join-at o (join-by o k) x d e) h
+      ∙ ap₂ (make o f n) (join-whole k (at o d f n) (at o e f n) (s .0)) (join-whole k (off d f n) (off e f n) (s .1))
     where
       more : (k : ℕ) → k ≤ suc k
       more k = omega arith
@@ -90,27 +90,33 @@ module _ {o : Ops} (L : Laws o) where
     where
       A : (Diagram → Diagram → Diagram) → Tested → Diagram
       A F u = choose-at o F u f n y z
+
       I : Diagram → Diagram → Diagram
       I = choose-by o i f n
+
       J : Diagram → Diagram → Diagram
       J = choose-by o j f n
+
       go : Least f n y z → ((v w : Diagram) → extent v + extent w ≤ i → extent v + extent w ≤ j → choose-by o i f n v w ≡ choose-by o j f n v w) → A I (earlier (earlier (f, n) (root y)) (root z)) ≡ A J (earlier (earlier (f, n) (root y)) (root z))
       go (own e p q) ih = ap (A I) e ∙ choose-at-own I f n y z ∙ sym (choose-at-own J f n y z) ∙ sym (ap (A J) e)
       go (other g m e a p q r) ih = ap (A I) e ∙ inner (decide g f) ∙ sym (ap (A J) e)
         where
           s : (extent (at o y g m) + extent (at o z g m) ≤ i) × (extent (off y g m) + extent (off z g m) ≤ i)
           s = split-fits g m i y z r b
+
           t : (extent (at o y g m) + extent (at o z g m) ≤ j) × (extent (off y g m) + extent (off z g m) ≤ j)
           t = split-fits g m j y z r c
+
           offs : I (off y g m) (off z g m) ≡ J (off y g m) (off z g m)
           offs = ih (off y g m) (off z g m) (s .1) (t .1)
+
           inner : Dec (g ≡ f) → A I (g, m) ≡ A J (g, m)
           inner (yes h) =
               choose-at-same I f n y z g m h (differ g m f n a) ∙ ap (make o g m (at o z g m)) offs ∙ sym (choose-at-same J f n y z g m h (differ g m f n a))
           inner (no h) =
               choose-at-other I f n y z g m h (differ g m f n a)
-                ∙ ap₂ (make o g m) (ih (at o y g m) (at o z g m) (s .0) (t .0)) offs
-                ∙ sym (choose-at-other J f n y z g m h (differ g m f n a))
+              ∙ ap₂ (make o g m) (ih (at o y g m) (at o z g m) (s .0) (t .0)) offs
+              ∙ sym (choose-at-other J f n y z g m h (differ g m f n a))
 
   choose-whole : (f n k : ℕ) (y z : Diagram) → extent y + extent z ≤ k → choose-by o k f n y z ≡ choose o f n y z
   unfolding choose
@@ -137,11 +143,11 @@ module _ {o : Ops} (L : Laws o) where
     pub choose-same-field : g ≡ f → choose o f n y z ≡ make o g m (at o z g m) (choose o f n (off y g m) (off z g m))
     choose-same-field h =
         choose-step f n y z g m e
-          ∙ choose-at-same (choose-by o (extent y + extent z) f n) f n y z g m h (differ g m f n a)
-          ∙ ap (make o g m (at o z g m)) (choose-whole f n (extent y + extent z) (off y g m) (off z g m) (fits .1))
+        ∙ choose-at-same (choose-by o (extent y + extent z) f n) f n y z g m h (differ g m f n a)
+        ∙ ap (make o g m (at o z g m)) (choose-whole f n (extent y + extent z) (off y g m) (off z g m) (fits .1))
 
     pub choose-other-field : g ≢ f → choose o f n y z ≡ make o g m (choose o f n (at o y g m) (at o z g m)) (choose o f n (off y g m) (off z g m))
     choose-other-field h =
         choose-step f n y z g m e
-          ∙ choose-at-other (choose-by o (extent y + extent z) f n) f n y z g m h (differ g m f n a)
-          ∙ ap₂ (make o g m) (choose-whole f n (extent y + extent z) (at o y g m) (at o z g m) (fits .0)) (choose-whole f n (extent y + extent z) (off y g m) (off z g m) (fits .1))
+        ∙ choose-at-other (choose-by o (extent y + extent z) f n) f n y z g m h (differ g m f n a)
+        ∙ ap₂ (make o g m) (choose-whole f n (extent y + extent z) (at o y g m) (at o z g m) (fits .0)) (choose-whole f n (extent y + extent z) (off y g m) (off z g m) (fits .1))
