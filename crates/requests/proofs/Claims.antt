@@ -3,18 +3,20 @@ use mathlib.Core.Path.{_≡_, sym}
 use mathlib.Core.List.{List}
 use Prim.Native.Nat.{ℕ}
 use Rattle.weights.specs.Weights.{Ops, Laws}
+use Rattle.weights.specs.Order.{In}
 use Rattle.meaning.specs.Diagrams.{Diagram}
 use Rattle.meaning.specs.Constructions.{Compiles}
 use Rattle.meaning.proofs.Starring.{enough-rounds, star-ends}
 use Rattle.meaning.proofs.Compiling.{compiles, named-in-either, uses-first, spare-either}
 use Rattle.requests.specs.Requests.{Request}
 use Rattle.requests.specs.Rules.{Narrows, Makes, Joins, Chooses, Prefixes, Sequences, Negates, Stars, Compiled}
-use Rattle.requests.specs.Claims.{Construction, AtMostOne, AtLeastOne, RulesAgree, RulesCover, SomeAnswer, OneAnswer, Gives, NarrowGives, MakeGives, JoinGives, ChooseGives, PrefixGives, SequenceGives, NegateGives, StarGives, StarAnswers, CompileGives, CompileAnswers}
+use Rattle.requests.specs.Claims.{Construction, AtMostOne, AtLeastOne, RulesAgree, RulesCover, SomeAnswer, NothingMissing, RequestsSuffice, OneAnswer, Gives, NarrowGives, MakeGives, JoinGives, ChooseGives, PrefixGives, SequenceGives, NegateGives, StarGives, StarAnswers, CompileGives, CompileAnswers}
 use Rattle.requests.proofs.Unique.{narrows-same, makes-same, joins-same, chooses-same, prefixes-same, sequences-same, negates-same, stars-same, compiled-same}
 use Rattle.requests.proofs.Narrowed.{Given, narrow-given, make-given}
 use Rattle.requests.proofs.Joined.{join-given, choose-given}
 use Rattle.requests.proofs.Followed.{prefix-given, sequence-given}
 use Rattle.requests.proofs.Total.{narrow-total, make-total, join-total, choose-total, prefix-total, sequence-total, negate-total}
+use Rattle.requests.proofs.Holding.{narrows-hold, makes-hold, joins-hold, chooses-hold, prefixes-hold, sequences-hold, negates-hold, stars-hold, compiled-hold}
 use Rattle.requests.proofs.Compiled.{negate-given, star-given, compile-given}
 
 pub rules-agree : (o : Ops) → RulesAgree o
@@ -42,6 +44,22 @@ rules-cover o =
       sequence-covers = λ d e. sequence-total o e d;
       negate-covers = negate-total o;
     }
+
+pub requests-suffice : RequestsSuffice
+requests-suffice o held =
+    record {
+      narrow-holds = λ d f n k r a p h. narrows-hold H p h k;
+      make-holds = λ f n y z k j r a p h. makes-hold H p h k j;
+      join-holds = λ d e k j r a p h. joins-hold H p h k j;
+      choose-holds = λ f n y z k j r a p h. chooses-hold H p h k j;
+      prefix-holds = λ s w d k r a p h. prefixes-hold H p h k;
+      sequence-holds = λ d e k j r a p h. sequences-hold H p h j k;
+      negate-holds = λ d k r a p h. negates-hold H p h k;
+      star-holds = λ d k r a p h. stars-hold H p h k;
+      compile-holds = λ t r a p h. compiled-hold H p h }
+  where
+    H : Request → Type 0
+    H q = In q held
 
 gives : (o : Ops) (R : Diagram → List Request → Type 0) (r : Diagram) → AtMostOne R → Given o R r → Gives o R r
 gives o R r once g =

@@ -6,4 +6,5 @@ pub mod Joined
 pub mod Total
 pub mod Followed
 pub mod Compiled
+pub mod Holding
 pub mod Claims

@@ -7,11 +7,12 @@ use Rattle.format.specs.Fields.{fields, LegalValue}
 use Rattle.format.specs.Limits.{words-limit}
 use Rattle.format.specs.Policy.{Policy, postfix, Legal}
 use Rattle.weights.specs.Weights.{Ops, Weight, Laws}
+use Rattle.weights.specs.Order.{In}
 use Rattle.meaning.specs.Leaves.{Action, Each, ActionFormed}
 use Rattle.meaning.specs.Diagrams.{Diagram, narrow, make, Tests, After, Formed}
 use Rattle.meaning.specs.Constructions.{join, choose, prefix, sequence, negate, round, Compiles}
 use Rattle.meaning.specs.Frames.{Spare, Named}
-use Rattle.requests.specs.Requests.{Request, RecordFormed}
+use Rattle.requests.specs.Requests.{Request, Records, RecordFormed}
 use Rattle.requests.specs.Rules.{Narrows, Makes, Joins, Chooses, Prefixes, Sequences, Negates, Stars, Compiled}
 
 -- a construction by its rules: a diagram, and the records that it requests
@@ -140,3 +141,26 @@ CompileGives = (o : Ops) → Laws o → (p : Policy) → Legal p → (d : Diagra
 -- a legal policy within the limit of words has a diagram
 abbrev pub CompileAnswers : Type 0
 CompileAnswers = (o : Ops) → Laws o → (p : Policy) → Legal p → length (postfix p) ≤ words-limit → (d : Diagram) × Compiles o p d × Gives o (Compiled o p) d
+
+-- every record of the diagram is among these
+abbrev pub Held : List Request → Diagram → Type 0
+Held held d = Records (λ q. In q held) d
+
+-- where the records requested are held too, every record of the diagram is held
+abbrev pub Holds : List Request → Construction → Type 0
+Holds held R = (r : Diagram) (a : List Request) → R r a → Each (λ q. In q held) a → Held held r
+
+-- no record of a result is missing among those of the operands and those requested
+pub record NothingMissing (o : Ops) (held : List Request) : Type 0 where
+  pub narrow-holds : (d : Diagram) (f n : ℕ) → Held held d → Holds held (Narrows o d f n)
+  pub make-holds : (f n : ℕ) (y z : Diagram) → Held held y → Held held z → Holds held (Makes o f n y z)
+  pub join-holds : (d e : Diagram) → Held held d → Held held e → Holds held (Joins o d e)
+  pub choose-holds : (f n : ℕ) (y z : Diagram) → Held held y → Held held z → Holds held (Chooses o f n y z)
+  pub prefix-holds : (s : Action) (w : ℕ) (d : Diagram) → Held held d → Holds held (Prefixes o s w d)
+  pub sequence-holds : (d e : Diagram) → Held held d → Held held e → Holds held (Sequences o e d)
+  pub negate-holds : (d : Diagram) → Held held d → Holds held (Negates o d)
+  pub star-holds : (d : Diagram) → Held held d → Holds held (Stars o d)
+  pub compile-holds : (p : Policy) → Holds held (Compiled o p)
+
+abbrev pub RequestsSuffice : Type 0
+RequestsSuffice = (o : Ops) (held : List Request) → NothingMissing o held

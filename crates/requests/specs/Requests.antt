@@ -2,7 +2,7 @@
 use mathlib.Core.List.{List, [], _∷_}
 use Prim.Native.Nat.{ℕ}
 use Rattle.weights.specs.Weights.{Ops}
-use Rattle.meaning.specs.Leaves.{Action, Cell, ActionFormed, LeafFormed}
+use Rattle.meaning.specs.Leaves.{Action, Cell, Each, ActionFormed, LeafFormed}
 use Rattle.meaning.specs.Diagrams.{Diagram, Leaf, Node, Formed}
 
 pub data Request : Type 0 where
@@ -22,3 +22,8 @@ abbrev pub RecordFormed : Ops → Request → Type 0
 RecordFormed o (action a) = ActionFormed a
 RecordFormed o (cell a w l) = LeafFormed o ((a, w) ∷ l)
 RecordFormed o (node f n y z) = Formed o (Node f n y z)
+
+-- every record of the diagram satisfies H
+abbrev pub Records : (Request → Type 0) → Diagram → Type 0
+Records H (Leaf l) = Each H (leaf-records l)
+Records H (Node f n y z) = H (node f n y z) × Records H y × Records H z

@@ -1,6 +1,6 @@
 // The constructions on diagrams, rule by rule, with the records that they request: each function stands for a theorem,
 // for every lawful weight kind.
-ghost use Rattle.requests.specs.Claims.{OneAnswer, SomeAnswer, NarrowGives, MakeGives, JoinGives, ChooseGives, PrefixGives, SequenceGives, NegateGives, StarGives, StarAnswers, CompileGives, CompileAnswers};
+ghost use Rattle.requests.specs.Claims.{OneAnswer, SomeAnswer, RequestsSuffice, NarrowGives, MakeGives, JoinGives, ChooseGives, PrefixGives, SequenceGives, NegateGives, StarGives, StarAnswers, CompileGives, CompileAnswers};
 
 // The rules give one diagram and one list of requests, whatever the operands are.
 pub fn the_rules_never_disagree()
@@ -10,6 +10,11 @@ pub fn the_rules_never_disagree()
 // They give some diagram too, with laws of weights or without.
 pub fn the_rules_cover_all_operands()
     ensures { λ _. ⌜ SomeAnswer ⌝ }
+{}
+
+// Every record of the diagram that they give is one of an operand or is requested.
+pub fn the_requests_suffice()
+    ensures { λ _. ⌜ RequestsSuffice ⌝ }
 {}
 
 // From here on: on well-formed operands the rules give what the construction is worked out to,
