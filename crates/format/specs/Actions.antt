@@ -55,6 +55,11 @@ ActionBelow [] bs = ⊥
 ActionBelow (a ∷ as′) [] = ⊥
 ActionBelow (a ∷ as′) (b ∷ bs) = SetBelow a b ⊎ ((a ≡ b) × ActionBelow as′ bs)
 
+-- a set of field f is to a legal value of it
+abbrev pub LegalSet : ℕ → Option ℕ → Type 0
+LegalSet f None = Unit {0}
+LegalSet f (Some n) = LegalValue f n
+
 -- every set is to a legal value of its field
 abbrev pub LegalSets : List (Option ℕ) → Type 0
 LegalSets a = (f n : ℕ) → getD a f None ≡ Some n → LegalValue f n

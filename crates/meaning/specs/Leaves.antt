@@ -7,7 +7,7 @@ use lib.ListN.{length, getD}
 use Rattle.std.specs.declared.option.Option.{Option}
 use Rattle.std.specs.declared.option.Option.the-variants.{Some, None}
 use Rattle.format.specs.Fields.{fields, LegalValue}
-use Rattle.format.specs.Actions.{LegalSets}
+use Rattle.format.specs.Actions.{LegalSet}
 use Rattle.weights.specs.Weights.{Ops, Weight}
 use Rattle.meaning.specs.Decide.{choice, three, decide, order-actions, Before}
 
@@ -53,7 +53,7 @@ collect o (c ∷ l) = enter o (c .0) (c .1) (collect o l)
 -- an action for frames: a value or none for each field, the values legal
 pub record ActionFormed (a : Action) : Type 0 where
   pub all-fields : length a ≡ fields
-  pub legal : LegalSets a
+  pub legal : (f : ℕ) → f < length a → LegalSet f (getD a f None)
 
 -- a cell of a leaf: an action and a weight of the kind that is not zero
 pub record CellFormed (o : Ops) (c : Cell) : Type 0 where

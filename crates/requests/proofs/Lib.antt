@@ -1,0 +1,10 @@
+pub mod Unique
+pub mod Acting
+pub mod Narrowed
+pub mod Worded
+pub mod Joined
+pub mod Total
+pub mod Followed
+pub mod Compiled
+pub mod Holding
+pub mod Claims
