@@ -13,9 +13,9 @@ use Rattle.format.specs.Actions.{apply, replaced}
 use Rattle.weights.specs.Weights.{Ops, Weight, Laws}
 use Rattle.weights.specs.Order.{Below, Under, Lub, In, joins}
 use Rattle.weights.proofs.Order.{under-refl, under-eq, under-trans, zero-under, times-mono-left, joins-weight, joins-upper, joins-least, joins-mono, joins-equal, joins-times, joins-map}
-use Rattle.walks.specs.Walks.{Same, Steps, pick, Weighed, stay, copies, walk, Walked, start, onward, Meets-only}
+use Rattle.walks.specs.Walks.{Same, Steps, pick, Weighed, stay, power, walk, Walked, start, onward, Meets-only}
 use Rattle.walks.specs.Rounds.{Stopped, Rounds}
-use Rattle.walks.proofs.Walks.{copies-weight, rounds}
+use Rattle.walks.proofs.Walks.{power-weight, rounds}
 use Rattle.meaning.specs.Decide.{choice, decide, equal-lists}
 use Rattle.meaning.specs.Leaves.{Action, Frame, Cell, Each, gather, ActionFormed, CellFormed, LeafFormed}
 use Rattle.meaning.specs.Diagrams.{Diagram, Leaf, Node, reach, emits, weigh, Tests, SetsOf, Cells, Sets, Formed}
@@ -173,7 +173,7 @@ module _ {o : Ops} (L : Laws o) (d : Diagram) (hd : Formed o d) where
   stay-zero s t = L .join-commutative _ _ w (L .zero-weight) ∙ L .zero-neutral _ w
     where
       w : Weight o (stay o same s t)
-      w = copies-weight L same step weighed 0 s t
+      w = power-weight L same step weighed 0 s t
 
   stopped : (k : ℕ) → round o d k ≡ round o d (suc k) → Stopped o same step k
   stopped k e s t = go (decide (length s) fields)
@@ -188,9 +188,9 @@ module _ {o : Ops} (L : Laws o) (d : Diagram) (hd : Formed o d) where
   -- a round that the next one repeats is the star
   pub star-means : (k : ℕ) → round o d k ≡ round o d (suc k) → IsStar o (weigh o d) (weigh o (round o d k))
   star-means k e =
-      (copies o same step,
-       record { none = λ s t p q. stay-only s t; more = λ j s t p q. subst (Lub o {I = (h : Frame) × InRange h} (λ h. o .times (weigh o d s (h .0)) (copies o same step j (h .0) t))) (sym (joins-steps s (p .all-fields) (λ h. copies o same step j h t))) (sequence-lub (copies o same step j) (λ h u. copies-weight L same step weighed j h u) s t p) },
-       λ s t p q. subst (Lub o (λ j. copies o same step j s t)) (sym (round-weighs k s t (p .all-fields))) (rounds L same step weighed k .stopped-star (stopped k e) s t))
+      (power o same step,
+       record { none = λ s t p q. stay-only s t; more = λ j s t p q. subst (Lub o {I = (h : Frame) × InRange h} (λ h. o .times (weigh o d s (h .0)) (power o same step j (h .0) t))) (sym (joins-steps s (p .all-fields) (λ h. power o same step j h t))) (sequence-lub (power o same step j) (λ h u. power-weight L same step weighed j h u) s t p) },
+       λ s t p q. subst (Lub o (λ j. power o same step j s t)) (sym (round-weighs k s t (p .all-fields))) (rounds L same step weighed k .stopped-star (stopped k e) s t))
 
 -- frames with given values in each field
 
