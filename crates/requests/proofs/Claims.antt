@@ -56,7 +56,8 @@ requests-suffice o held =
       sequence-holds = λ d e k j r a p h. sequences-hold H p h j k;
       negate-holds = λ d k r a p h. negates-hold H p h k;
       star-holds = λ d k r a p h. stars-hold H p h k;
-      compile-holds = λ t r a p h. compiled-hold H p h }
+      compile-holds = λ t r a p h. compiled-hold H p h;
+    }
   where
     H : Request → Type 0
     H q = In q held
