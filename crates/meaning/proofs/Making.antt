@@ -58,20 +58,20 @@ module _ {o : Ops} (L : Laws o) where
 
   collect-narrow-narrow : (p q : Facts) (l : List Cell) → Consistent p q → Weights o l → collect o (map (narrow-cell q) (collect o (map (narrow-cell p) l))) ≡ collect o (map (narrow-cell (also p q)) l)
   collect-narrow-narrow p q l k h =
-      leaves-equal _ _ (collect-tidy _ w2) (collect-tidy _ (narrow-cells-weights L (also p q) l h)) (λ a.
-        gather-collect L (value-additive a) _ w2
+      leaves-equal _ _ (collect-tidy _ twice) (collect-tidy _ (narrow-cells-weights L (also p q) l h)) (λ a.
+        gather-collect L (value-additive a) _ twice
           ∙ gather-map o (G a) (λ b. G a (narrow-action q b)) (narrow-cell q) (λ c. refl) (collect o (map (narrow-cell p) l))
-          ∙ gather-collect L (chosen-additive L (λ b. equal-actions (narrow-action q b) a)) _ w1
+          ∙ gather-collect L (chosen-additive L (λ b. equal-actions (narrow-action q b) a)) _ once
           ∙ gather-map o (λ b. G a (narrow-action q b)) (λ b. G a (narrow-action (also p q) b)) (narrow-cell p) (λ c. ap (λ (b : Action). G a b (c .1)) (narrow-narrow-action p q (c .0) k)) l
           ∙ sym (gather-map o (G a) (λ b. G a (narrow-action (also p q) b)) (narrow-cell (also p q)) (λ c. refl) l)
           ∙ sym (gather-collect L (value-additive a) _ (narrow-cells-weights L (also p q) l h)))
     where
       G : Action → Action → ℕ → ℕ
       G a b w = choice (equal-actions b a) w (o .zero)
-      w1 : Weights o (map (narrow-cell p) l)
-      w1 = narrow-cells-weights L p l h
-      w2 : Weights o (map (narrow-cell q) (collect o (map (narrow-cell p) l)))
-      w2 = narrow-cells-weights L q _ (collect-weights L _ w1)
+      once : Weights o (map (narrow-cell p) l)
+      once = narrow-cells-weights L p l h
+      twice : Weights o (map (narrow-cell q) (collect o (map (narrow-cell p) l)))
+      twice = narrow-cells-weights L q _ (collect-weights L _ once)
 
 -- facts in another order
 
