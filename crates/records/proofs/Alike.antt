@@ -1,5 +1,5 @@
 -- Records whose numbers agree are equal: what a type promises of them has one proof only.
-use mathlib.Core.Path.{_≡_, refl, ap, sym, _∙_}
+use mathlib.Core.Path.{_≡_, ap, sym, _∙_}
 use mathlib.Core.HLevel.{Σ-prop-path, Π-prop, ×-prop}
 use mathlib.Core.List.{List}
 use Prim.Native.Nat.{ℕ, _<_}

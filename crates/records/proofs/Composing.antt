@@ -10,7 +10,7 @@ use lib.Lanes.{zip2}
 use lib.ListN.{length, getD, set}
 use Rattle.std.proofs.shelf.Edits.{fill-by-more}
 use Rattle.std.proofs.shelf.Lanes.{getD-zip2, length-zip2}
-use Rattle.std.proofs.shelf.Lists.{ext-getD, getD-past, getD-set-same, getD-set-other, length-set, set-past}
+use Rattle.std.proofs.shelf.Lists.{ext-getD, getD-past, getD-set-same, getD-set-other, set-past}
 use Rattle.std.proofs.shelf.Tests.{cases-lt, cases-eq}
 use Rattle.std.specs.Orderings.{Ranked}
 use Rattle.std.specs.declared.cmp.Ordering.{Ordering}

@@ -1,6 +1,4 @@
 -- The words of diagrams.
-use mathlib.Core.Logic.{_⊎_}
-use mathlib.Core.Path.{_≡_}
 use Prim.Native.Nat.{ℕ, _<_, _≤_}
 use Rattle.format.specs.Words.{word}
 use Rattle.records.specs.declared.kinds.Diagram.{Diagram}

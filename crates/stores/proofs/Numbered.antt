@@ -11,7 +11,6 @@ use Rattle.std.proofs.shelf.Tests.{cases-lt}
 use Rattle.std.proofs.shelf.Maps.{nth-past, nth-read, nth-getD}
 use Rattle.std.specs.Finite.{nth}
 use Rattle.std.specs.Results.{Cases}
-use Rattle.std.specs.declared.option.Option.{Option}
 use Rattle.std.specs.declared.option.Option.the-variants.{Some, None}
 use Rattle.std.specs.declared.result.Result.{Result}
 use Rattle.std.specs.declared.result.Result.the-variants.{Ok, Err}

@@ -1,11 +1,5 @@
-use mathlib.Core.Path.{_≡_, refl, ap, _∙_}
-use Prim.Native.Nat.{ℕ, _<_}
 use native.Mathlib.Omega.{arith}
 use borrow.Author.Count.{below-more}
-use lib.ListN.{length}
-use Rattle.std.proofs.shelf.Maps.{nth-read}
-use Rattle.std.specs.Finite.{nth}
-use Rattle.std.specs.declared.option.Option.the-variants.{Some}
 use Rattle.stores.proofs.Numbered.{read-there, read-elsewhere}
 use Rattle.stores.proofs.store.find.Needs as need
 
