@@ -26,15 +26,25 @@ use Rattle.tables.specs.Forwards.{Refused}
 abbrev pub setting : List ℕ → ℕ → List ℕ
 setting sign w = field-name (field-of w) ++ (sign ++ decimal (value-of w))
 
+-- how the saying of a word of kind k begins
+abbrev pub opening : ℕ → List ℕ
+opening k =
+    cond (eqb k 10) (codes "row of ")
+    (cond (eqb k 11) (codes "where ")
+    (cond (eqb k 12) (codes "weight ") (cond (eqb k 13) (codes "set ") (cond (eqb k 14) (codes "end of rows ") []))))
+
+-- what a word of kind k says of its field and its value
+abbrev pub details : ℕ → ℕ → List ℕ
+details k w =
+    cond (eqb k 9) (setting (codes "=") w)
+    (cond (eqb k 10) (decimal (field-of w) ++ (codes " matches, emissions " ++ decimal (value-of w)))
+    (cond (eqb k 11) (setting (codes "=") w)
+    (cond (eqb k 12) (decimal (value-of w))
+    (cond (eqb k 13) (setting (codes ":=") w) (cond (eqb k 14) (decimal (value-of w)) (codes "unknown"))))))
+
 -- what a word says
 abbrev pub said : ℕ → List ℕ
-said w =
-    cond (eqb (kind-of w) 9) (setting (codes "=") w)
-    (cond (eqb (kind-of w) 10) (codes "row of " ++ (decimal (field-of w) ++ (codes " matches, emissions " ++ decimal (value-of w))))
-    (cond (eqb (kind-of w) 11) (codes "where " ++ setting (codes "=") w)
-    (cond (eqb (kind-of w) 12) (codes "weight " ++ decimal (value-of w))
-    (cond (eqb (kind-of w) 13) (codes "set " ++ setting (codes ":=") w)
-    (cond (eqb (kind-of w) 14) (codes "end of rows " ++ decimal (value-of w)) (codes "unknown"))))))
+said w = opening (kind-of w) ++ details (kind-of w) w
 
 -- as ` 91000003 pt=3`
 abbrev pub worded : ℕ → List ℕ
@@ -49,10 +59,14 @@ abbrev pub frame-line : List ℕ → List ℕ
 frame-line ws = codes "frame" ++ (joined worded ws ++ codes "\n")
 
 -- a word of an answer: a weight begins the line of an emitted frame, and its last field ends it
+abbrev pub line-start : ℕ → List ℕ
+line-start w = cond (eqb (kind-of w) 12) (codes "emit") []
+
+abbrev pub line-end : ℕ → List ℕ
+line-end w = cond (eqb (field-of w + 1) fields) (codes "\n") []
+
 abbrev pub emitted : ℕ → List ℕ
-emitted w =
-    cond (eqb (kind-of w) 12) (codes "emit" ++ worded w)
-    (worded w ++ cond (eqb (suc (field-of w)) fields) (codes "\n") [])
+emitted w = line-start w ++ (worded w ++ line-end w)
 
 -- the record of one frame: its words, and what is emitted or why nothing is
 pub data FrameRecord (o : Ops) (rows : List Row) (ws : List ℕ) (room : ℕ) (text : List ℕ) : Type 0 where

@@ -4,8 +4,8 @@ ghost use mathlib.Core.List.{_++_};
 ghost use Rattle.std.specs.Joined.{joined};
 ghost use Rattle.std.specs.Of.Vec.{vec-items};
 ghost use Rattle.std.specs.Vec.{made};
-ghost use Rattle.std.specs.Written.{decimal};
-ghost use Rattle.replaying.specs.Records.{setting, said, worded, table-line, frame-line, emitted};
+ghost use Rattle.replaying.specs.Records.{setting, opening, details, worded, table-line, frame-line, line-start, line-end, emitted};
+ghost use Rattle.format.specs.Words.{kind-of};
 
 use format::FIELDS;
 use format::Word;
@@ -22,38 +22,47 @@ fn push_setting(out: &mut Vec<u8>, sign: &[u8], bits: u32) -> Result<(), AllocEr
     let word = Word::split(bits);
     out.extend_from_slice(field_name(word.field))?;
     out.extend_from_slice(sign)?;
-    push_decimal(out, word.value as u64)
+    push_decimal(out, word.value as u64)?;
+    Ok(())
 }
 
-// Appends a number behind its name.
-fn push_counted(out: &mut Vec<u8>, name: &[u8], number: u32) -> Result<(), AllocError>
-    ensures { λ r. ⌜ made r (λ _. vec-items (now (out .exit)) ≡ vec-items (now (out .entry)) ++ (now (name .entry) ++ decimal number)) ⌝ }
+// How the saying of a word begins.
+fn opening(kind: u32) -> &'static [u8]
+    ensures { λ r. ⌜ now r ≡ opening kind ⌝ }
 {
-    out.extend_from_slice(name)?;
-    push_decimal(out, number as u64)
+    match kind {
+        10 => b"row of ",
+        11 => b"where ",
+        12 => b"weight ",
+        13 => b"set ",
+        14 => b"end of rows ",
+        _ => b"",
+    }
 }
 
-// Appends what a word of a frame or a table says.
-fn push_said(out: &mut Vec<u8>, bits: u32) -> Result<(), AllocError>
-    ensures { λ r. ⌜ made r (λ _. vec-items (now (out .exit)) ≡ vec-items (now (out .entry)) ++ said bits) ⌝ }
+// Appends how many matches and emissions a head counts.
+fn push_counts(out: &mut Vec<u8>, bits: u32) -> Result<(), AllocError>
+    ensures { λ r. ⌜ made r (λ _. vec-items (now (out .exit)) ≡ vec-items (now (out .entry)) ++ details 10 bits) ⌝ }
+{
+    let word = Word::split(bits);
+    push_decimal(out, word.field as u64)?;
+    out.extend_from_slice(b" matches, emissions ")?;
+    push_decimal(out, word.value as u64)?;
+    Ok(())
+}
+
+// Appends what a word says of its field and its value.
+fn push_details(out: &mut Vec<u8>, bits: u32) -> Result<(), AllocError>
+    ensures { λ r. ⌜ made r (λ _. vec-items (now (out .exit)) ≡ vec-items (now (out .entry)) ++ details (kind-of bits) bits) ⌝ }
 {
     let word = Word::split(bits);
     match word.kind {
         9 => push_setting(out, b"=", bits),
-        10 => {
-            push_counted(out, b"row of ", word.field)?;
-            push_counted(out, b" matches, emissions ", word.value)
-        }
-        11 => {
-            out.extend_from_slice(b"where ")?;
-            push_setting(out, b"=", bits)
-        }
-        12 => push_counted(out, b"weight ", word.value),
-        13 => {
-            out.extend_from_slice(b"set ")?;
-            push_setting(out, b":=", bits)
-        }
-        14 => push_counted(out, b"end of rows ", word.value),
+        10 => push_counts(out, bits),
+        11 => push_setting(out, b"=", bits),
+        12 => push_decimal(out, word.value as u64),
+        13 => push_setting(out, b":=", bits),
+        14 => push_decimal(out, word.value as u64),
         _ => out.extend_from_slice(b"unknown"),
     }
 }
@@ -65,7 +74,9 @@ fn push_worded(out: &mut Vec<u8>, bits: u32) -> Result<(), AllocError>
     out.extend_from_slice(b" ")?;
     push_hex(out, bits)?;
     out.extend_from_slice(b" ")?;
-    push_said(out, bits)
+    out.extend_from_slice(opening(Word::split(bits).kind))?;
+    push_details(out, bits)?;
+    Ok(())
 }
 
 // Appends a line for each word of a table.
@@ -83,7 +94,8 @@ fn push_table_line(out: &mut Vec<u8>, bits: u32) -> Result<(), AllocError>
 {
     out.extend_from_slice(b"table")?;
     push_worded(out, bits)?;
-    out.extend_from_slice(b"\n")
+    out.extend_from_slice(b"\n")?;
+    Ok(())
 }
 
 // Appends a line of a frame's words.
@@ -94,22 +106,37 @@ fn push_frame_line(out: &mut Vec<u8>, words: &[u32]) -> Result<(), AllocError>
     for bits in words {
         push_worded(out, *bits)?;
     }
-    out.extend_from_slice(b"\n")
+    out.extend_from_slice(b"\n")?;
+    Ok(())
+}
+
+fn line_start(bits: u32) -> &'static [u8]
+    ensures { λ r. ⌜ now r ≡ line-start bits ⌝ }
+{
+    if Word::split(bits).kind == WEIGHT {
+        b"emit"
+    } else {
+        b""
+    }
+}
+
+fn line_end(bits: u32) -> &'static [u8]
+    ensures { λ r. ⌜ now r ≡ line-end bits ⌝ }
+{
+    if Word::split(bits).field + 1 == FIELDS {
+        b"\n"
+    } else {
+        b""
+    }
 }
 
 // Appends a word of an answer: a weight begins a line, the last field ends it.
 fn push_emitted(out: &mut Vec<u8>, bits: u32) -> Result<(), AllocError>
     ensures { λ r. ⌜ made r (λ _. vec-items (now (out .exit)) ≡ vec-items (now (out .entry)) ++ emitted bits) ⌝ }
 {
-    let word = Word::split(bits);
-    if word.kind == WEIGHT {
-        out.extend_from_slice(b"emit")?;
-        return push_worded(out, bits);
-    }
+    out.extend_from_slice(line_start(bits))?;
     push_worded(out, bits)?;
-    if word.field + 1 == FIELDS {
-        out.extend_from_slice(b"\n")?;
-    }
+    out.extend_from_slice(line_end(bits))?;
     Ok(())
 }
 

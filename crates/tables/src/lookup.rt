@@ -8,7 +8,7 @@ ghost use Rattle.std.specs.Options.{Cases};
 ghost use Rattle.std.specs.shelf.Lists.{All};
 ghost use Rattle.tables.specs.Rows.{Row, LegalRows, table-words};
 ghost use Rattle.tables.specs.Emits.{holds};
-ghost use Rattle.tables.specs.Scans.{body-length, words-hold};
+ghost use Rattle.tables.specs.Scans.{closes, body-length, words-hold};
 ghost use Rattle.tables.specs.Forwards.{Decides};
 
 use super::END;
@@ -19,14 +19,21 @@ use format::Word;
 use frames::Frame;
 use weights::WeightKind;
 
+// Whether a word is a head or an end, before which a row is over.
+fn closes_row(bits: u32) -> bool
+    ensures { λ r. ⌜ r ≡ closes bits ⌝ }
+{
+    let kind = Word::split(bits).kind;
+    kind == HEAD || kind == END
+}
+
 // The place behind a row: the next head or end.
 fn row_end(words: &[u32], from: usize) -> usize
     requires { ⌜ from ≤ length (now words) ⌝ }
     ensures { λ r. ⌜ r ≡ from + body-length (drop from (now (words .entry))) ⌝ ∗ ⌜ r ≤ length (now (words .entry)) ⌝ }
 {
     for place in from..words.len() {
-        let word = Word::split(words[place]);
-        if word.kind == HEAD || word.kind == END {
+        if closes_row(words[place]) {
             return place;
         }
     }
