@@ -353,3 +353,14 @@ pub frame-refused :
     Cases r P (λ e. Refused o rows ws room e)
 frame-refused P o rows ws room r y z e i h =
     subst (λ (x : Result ℕ FrameFault). Cases x P (λ e. Refused o rows ws room e)) (sym (e ∙ ap Err i)) (refused-frame o rows ws room z h)
+
+-- an answer lies within the memory
+pub sent-within :
+    (o : Ops) (xs : List Sent) (was is : List ℕ) (r : Result ℕ FrameFault) →
+    Cases r (λ n. RowSent o xs was n is) (λ e. (e ≡ NoRoom) × RowFull xs (length was)) →
+    Cases r (λ n. n ≤ length was) (λ _. Unit {0})
+sent-within o xs was is (Ok n) h = h .fits
+sent-within o xs was is (Err y) h = tt
+
+pub refused-within : (m : ℕ) (r : Result ℕ FrameFault) (y : FrameFault) → r ≡ Err y → Cases r (λ n. n ≤ m) (λ _. Unit {0})
+refused-within m r y e = subst (λ (x : Result ℕ FrameFault). Cases x (λ n. n ≤ m) (λ _. Unit {0})) (sym e) tt

@@ -200,7 +200,8 @@ listed-all o xs last was n is l e =
       only = l .only;
       every = λ t i. l .every t i (none-left last xs e t i);
       count = l .count;
-      written = l .written
+      written = l .written;
+      fits = l .fits
     }
 
 length-words : (f : ℕ) (s : List ℕ) → length (words-from f s) ≡ length s
