@@ -13,7 +13,6 @@ ghost use Rattle.faults.specs.declared.layers.FrameFault.the-variants.{NoRoom};
 ghost use Rattle.tables.specs.Emits.{sent-length, sent-words};
 ghost use Rattle.tables.specs.Scans.{RowSent, RowFull, applied as applied-to, sends, weight-in, least, above, below, values-of};
 ghost use Rattle.tables.specs.Forwards.{Answered, Refused};
-
 use super::SET;
 use super::WEIGHT;
 use super::check::CheckedTable;

@@ -14,8 +14,8 @@ returns-in-Break-frame g c =
     record {
       within = refused-within (length (c .args .out .now)) (c .from-residual .result) (p .0) (p .1);
       exact = λ rows legal e.
-        frame-refused _ (g .K·WeightKind .ops) rows (c .args .frame .now) (length (c .args .out .now)) (c .from-residual .result) (p .0) _ (p .1) (p .2)
-        (c .in-Break-frame .ensures tt .read)
+          frame-refused _ (g .K·WeightKind .ops) rows (c .args .frame .now) (length (c .args .out .now)) (c .from-residual .result) (p .0) _ (p .1) (p .2)
+          (c .in-Break-frame .ensures tt .read);
     }
 
 pub returns-in-Some : need.returns-in-Some
@@ -26,8 +26,8 @@ returns-in-Some g c =
     record {
       within = sent-within (g .K·WeightKind .ops) (sends (c .in-Some .row .now) s) (c .args .out .now) (c .send-row .last .out) (c .send-row .result) (c .send-row .ensures);
       exact = λ rows legal e.
-        row-answered (g .K·WeightKind·met .lawful) rows legal s (c .args .self .now .words .now) (c .in-Some .row .now) (c .args .frame .now) (c .args .out .now) (c .send-row .last .out)
-        (c .send-row .result) v (c .in-Continue-frame .ensures tt .read) (c .in-Some .ensures tt rows legal e) (c .send-row .ensures)
+          row-answered (g .K·WeightKind·met .lawful) rows legal s (c .args .self .now .words .now) (c .in-Some .row .now) (c .args .frame .now) (c .args .out .now) (c .send-row .last .out)
+          (c .send-row .result) v (c .in-Continue-frame .ensures tt .read) (c .in-Some .ensures tt rows legal e) (c .send-row .ensures);
     }
 
 pub returns-in-None : need.returns-in-None
@@ -37,10 +37,10 @@ returns-in-None g c =
     let v : FrameValues s = record { one-each = eight; in-range = c .in-Continue-frame .frame .legal } in
     record {
       within = omega arith;
-      exact = λ rows legal e.
-        ( s
-        , v
-        , c .in-Continue-frame .ensures tt .read
-        , none-written (g .K·WeightKind .ops) rows s (c .args .out .now) (c .in-None .ensures tt rows legal e)
-        )
+      exact = λ rows legal e. (
+        s,
+        v,
+        c .in-Continue-frame .ensures tt .read,
+        none-written (g .K·WeightKind .ops) rows s (c .args .out .now) (c .in-None .ensures tt rows legal e),
+      );
     }
