@@ -39,9 +39,9 @@ pub words-from-places :
     ws ≡ frame-words s
 words-from-places ws s e h =
     ext-getD 0 ws (frame-words s) (e ∙ sym (length-words 0 s)) λ k l.
-        let m : k < length s = omega (arith, e) in
-        let z : 0 + k ≡ k = omega arith in
-        h k m ∙ sym (word-at 0 s k m ∙ ap (λ x. word 9 x (getD s k 0)) z)
+    let m : k < length s = omega (arith, e) in
+    let z : 0 + k ≡ k = omega arith in
+    h k m ∙ sym (word-at 0 s k m ∙ ap (λ x. word 9 x (getD s k 0)) z)
 
 pub words-injective : (f : ℕ) (s t : List ℕ) → words-from f s ≡ words-from f t → s ≡ t
 words-injective f [] [] e = refl
@@ -80,7 +80,7 @@ pub reads :
     Cases r (λ s. ws ≡ frame-words (s .values)) (λ e. NoFrame e ws) →
     record {
       read : Cases r (λ s. ws ≡ frame-words (s .values)) (λ e. NoFrame e ws);
-      back : (s : List ℕ) → FrameValues s → ws ≡ frame-words s → Cases r (λ t. t .values ≡ s) (λ _. ⊥)
+      back : (s : List ℕ) → FrameValues s → ws ≡ frame-words s → Cases r (λ t. t .values ≡ s) (λ _. ⊥);
     }
 reads ws r h = record { read = h; back = reads-back ws r h }
 
@@ -127,6 +127,7 @@ right-more ws s k n l h here f m = go (cases-eq f k)
   where
     Right : ℕ → ℕ → Type 0
     Right f x = (getD ws f 0 ≡ word 9 f x) × LegalValue f x
+
     go : (f ≡ k) ⊎ (f ≡ k → ⊥) → Right f (getD (set s k n) f 0)
     go (inl e) = subst (λ (y : ℕ). Right y (getD (set s k n) y 0)) (sym e) (subst (Right k) (sym (getD-set-same s k n 0 l)) here)
     go (inr ne) = subst (Right f) (sym (getD-set-other s k f n 0 ne)) (h f (omega arith))

@@ -2,7 +2,6 @@
 ghost use Prim.Native.Nat.{ℕ, _<_};
 ghost use lib.ListN.{getD};
 ghost use Rattle.format.specs.Fields.{fields, LegalValue};
-
 use format::FIELDS;
 
 // How many values a frame has.

@@ -12,8 +12,8 @@ ghost use Rattle.frames.specs.Frames.{FrameValues, FieldWord, NoFrame, frame-w
 mod frame;
 
 use faults::FrameFault;
-use format::FIELDS;
 use format::FIELD_UNIT;
+use format::FIELDS;
 use format::KIND_UNIT;
 use format::Setting;
 use format::Word;

@@ -82,7 +82,7 @@ module _ {o : Ops} (laws : Laws o) where
       (applied-sets 0 (e .sets) (joined emission-words es) s (l .0 .sets-legal) (no-set-first es (l .1))) ∙
       ap (λ w. record { frame = replaced (e .sets) s; weight = w } ∷ sends (set-words (e .sets) ++ joined emission-words es) s) (k .1) ∙
       ap (λ xs. send s e ∷ xs)
-      ( sends-past (set-words (e .sets)) (joined emission-words es) s (other-kinds 13 0 (e .sets) (λ x. omega arith) (l .0 .sets-legal)) ∙
+      (sends-past (set-words (e .sets)) (joined emission-words es) s (other-kinds 13 0 (e .sets) (λ x. omega arith) (l .0 .sets-legal)) ∙
       sends-emissions es s (l .1)
       )
 
@@ -215,15 +215,18 @@ ascending-same (x ∷ xs) (y ∷ ys) a b f g =
     later : In x ys → In y xs → ⊥
     later i j =
         true≢false (sym (a .0 (y .frame) (frame-in y xs j)) ∙ asymmetric (y .frame) (x .frame) (b .0 (x .frame) (frame-in x ys i)))
+
     first : x ≡ y
     first = elim (f x (inl refl)) [
-        inl e ↦ e
+      | inl e ↦ e
       | inr i ↦ elim (g y (inl refl)) [ inl e ↦ sym e | inr j ↦ absurd (later i j) ]
-      ]
+    ]
+
     down : (z : Sent) → In z xs → In z (y ∷ ys) → In z ys
     down z i (inl e) =
         absurd (true≢false (sym (a .0 (x .frame) (subst (λ (w : Sent). In (w .frame) (frames-of xs)) (e ∙ sym first) (frame-in z xs i))) ∙ irreflexive (x .frame)))
     down z i (inr j) = j
+
     up : (z : Sent) → In z ys → In z (x ∷ xs) → In z xs
     up z i (inl e) =
         absurd (true≢false (sym (b .0 (y .frame) (subst (λ (w : Sent). In (w .frame) (frames-of ys)) (e ∙ first) (frame-in z ys i))) ∙ irreflexive (y .frame)))
@@ -252,7 +255,7 @@ written-answer o rows s was n is xs a c e =
       only = λ ys b. answer-unique o rows s ys xs b a;
       count = c;
       front = ap (take n) e ∙ take-at (joined sent-words xs) (drop n was) n (sym c);
-      past = ap (drop n) e ∙ drop-at (joined sent-words xs) (drop n was) n (sym c)
+      past = ap (drop n) e ∙ drop-at (joined sent-words xs) (drop n was) n (sym c);
     }
 
 pub none-written :
@@ -264,7 +267,7 @@ none-written o rows s was a =
     (record {
       ascending = tt;
       sound = λ x i. elim i [ ];
-      complete = λ t h. absurd (h (emits-none o rows s t a))
+      complete = λ t h. absurd (h (emits-none o rows s t a));
     })
     refl
     refl
@@ -292,20 +295,23 @@ module _ {o : Ops} (laws : Laws o) (rows : List Row) (legal : LegalRows o rows) 
       (record {
         ascending = r .ascending;
         sound = λ x i. (right x i, nonzero x i);
-        complete = λ t h. complete t h (sent-or-not o t (o .zero) (sends found s))
+        complete = λ t h. complete t h (sent-or-not o t (o .zero) (sends found s));
       })
       (r .count)
       (r .written)
     where
       weight : (x : Sent) → In x (r .list) → Some-weight o (weight-in o (x .frame) (o .zero) (sends found s))
       weight x i = sent-weight (x .frame) (r .only (x .frame) (frame-in x (r .list) i))
+
       right : (x : Sent) → In x (r .list) → emits o rows s (x .frame) ≡ x .weight
       right x i =
           let small = laws .below-end _ (weight x i .0) in
           let whole : weight-in o (x .frame) (o .zero) (sends found s) ≡ value-of (weight-in o (x .frame) (o .zero) (sends found s)) = omega arith in
           emitted (x .frame) ∙ whole ∙ sym (r .weighed x i)
+
       nonzero : (x : Sent) → In x (r .list) → x .weight ≡ o .zero → ⊥
       nonzero x i e = weight x i .1 (sym (emitted (x .frame)) ∙ right x i ∙ e)
+
       complete :
           (t : List ℕ) →
           (emits o rows s t ≡ o .zero → ⊥) →
@@ -324,7 +330,7 @@ module _ {o : Ops} (laws : Laws o) (rows : List Row) (legal : LegalRows o rows) 
         frames = r .frames;
         ascending = r .ascending;
         emitted = λ t i e. sent-weight t (r .only t i) .1 (sym (emitted t) ∙ e);
-        many = r .many
+        many = r .many;
       }
 
 pub row-answered :
@@ -353,3 +359,14 @@ pub frame-refused :
     Cases r P (λ e. Refused o rows ws room e)
 frame-refused P o rows ws room r y z e i h =
     subst (λ (x : Result ℕ FrameFault). Cases x P (λ e. Refused o rows ws room e)) (sym (e ∙ ap Err i)) (refused-frame o rows ws room z h)
+
+-- an answer lies within the memory
+pub sent-within :
+    (o : Ops) (xs : List Sent) (was is : List ℕ) (r : Result ℕ FrameFault) →
+    Cases r (λ n. RowSent o xs was n is) (λ e. (e ≡ NoRoom) × RowFull xs (length was)) →
+    Cases r (λ n. n ≤ length was) (λ _. Unit {0})
+sent-within o xs was is (Ok n) h = h .fits
+sent-within o xs was is (Err y) h = tt
+
+pub refused-within : (m : ℕ) (r : Result ℕ FrameFault) (y : FrameFault) → r ≡ Err y → Cases r (λ n. n ≤ m) (λ _. Unit {0})
+refused-within m r y e = subst (λ (x : Result ℕ FrameFault). Cases x (λ n. n ≤ m) (λ _. Unit {0})) (sym e) tt

@@ -52,10 +52,10 @@ module _ {o : Ops} where
           let i : Fit (length (x .matches)) (length (x .emissions)) = (omega arith, l .0 .countable) in
           let z = same-parts 10 f v 10 (length (x .matches)) (length (x .emissions)) fit i (head-same e) in
           let t : List ℕ = joined row-words xs ++ (word 14 0 (n + 1 + length xs) ∷ []) in
-          let m : n + suc (length xs) ≡ n + 1 + length xs = omega arith in
-          ( omega arith
-          , omega (arith, z .1)
-          , record {
+          let m : n + suc (length xs) ≡ n + 1 + length xs = omega arith in (
+            omega arith,
+            omega (arith, z .1),
+            record {
               pairs = x .matches;
               tail = joined emission-words (x .emissions) ++ t;
               count = sym (z .1);
@@ -66,13 +66,13 @@ module _ {o : Ops} where
                 count = sym (z .2);
                 legal = l .0 .emissions-legal;
                 later = record { rows = xs; legal = l .1; countable = omega arith; is = refl };
-                is = refl
+                is = refl;
               };
               is =
                   tail-same e ∙
                   regroup (match-words (x .matches)) (joined emission-words (x .emissions)) (joined row-words xs) (word 14 0 (n + suc (length xs)) ∷ []) ∙
-                  ap (λ k. match-words (x .matches) ++ (joined emission-words (x .emissions) ++ (joined row-words xs ++ (word 14 0 k ∷ [])))) m
-            }
+                  ap (λ k. match-words (x .matches) ++ (joined emission-words (x .emissions) ++ (joined row-words xs ++ (word 14 0 k ∷ [])))) m;
+            },
           )
 
   pub opens : (n f v : ℕ) (rest : List ℕ) → v < value-end → MatchesRest o (n + 1) 0 f v rest → RowsRest o n (word 10 f v ∷ rest)
@@ -83,25 +83,25 @@ module _ {o : Ops} where
       let m : n + 1 + length xs ≡ n + suc (length xs) = omega arith in
       record {
         rows = record { matches = ps; emissions = es } ∷ xs;
-        legal =
-            ( record {
-                matches-legal = r .legal;
-                countable = omega (arith, r .later .count);
-                emissions-legal = r .later .legal
-              }
-            , r .later .later .legal
-            );
+        legal = (
+          record {
+            matches-legal = r .legal;
+            countable = omega (arith, r .later .count);
+            emissions-legal = r .later .legal;
+          },
+          r .later .later .legal,
+        );
         countable = omega (arith, r .later .later .countable);
         is =
             ap (λ k. word 10 k v ∷ rest) (sym (r .count)) ∙
             ap (λ k. word 10 (length ps) k ∷ rest) (sym (r .later .count)) ∙
             ap (λ t. word 10 (length ps) (length es) ∷ t)
-            ( r .is ∙
+            (r .is ∙
             ap (λ t. match-words ps ++ t) (r .later .is) ∙
             ap (λ t. match-words ps ++ (joined emission-words es ++ t)) (r .later .later .is) ∙
             ap (λ k. match-words ps ++ (joined emission-words es ++ (joined row-words xs ++ (word 14 0 k ∷ [])))) m ∙
             sym (regroup (match-words ps) (joined emission-words es) (joined row-words xs) (word 14 0 (n + suc (length xs)) ∷ []))
-            )
+            );
       }
 
   pub ended :
@@ -132,7 +132,7 @@ module _ {o : Ops} where
         rows = [];
         legal = tt;
         countable = omega arith;
-        is = ap (λ k. word 14 0 k ∷ rest) m ∙ ap (λ t. word 14 0 (n + 0) ∷ t) e
+        is = ap (λ k. word 14 0 k ∷ rest) m ∙ ap (λ t. word 14 0 (n + 0) ∷ t) e;
       }
 
   -- rows begin with a head, or the end stands there
@@ -200,18 +200,18 @@ module _ {o : Ops} where
       go (p ∷ ps) l c e =
           let z = same-parts 11 g v 11 (p .0) (p .1) fit (fit-pair f p ps l) (head-same e) in
           let few = few-pairs (suc (p .0)) ps (omega (arith, l .1)) (l .3) in
-          let s : suc (p .0) ≡ g + 1 = omega (arith, z .1) in
-          ( omega (arith, l .0, z .1)
-          , omega (arith, z .1)
-          , subst (λ (x : ℕ). LegalValue x v) (sym (z .1)) (subst (λ (x : ℕ). LegalValue (p .0) x) (sym (z .2)) (l .2))
-          , record {
+          let s : suc (p .0) ≡ g + 1 = omega (arith, z .1) in (
+            omega (arith, l .0, z .1),
+            omega (arith, z .1),
+            subst (λ (x : ℕ). LegalValue x v) (sym (z .1)) (subst (λ (x : ℕ). LegalValue (p .0) x) (sym (z .2)) (l .2)),
+            record {
               pairs = ps;
               tail = r .tail;
               count = omega arith;
               legal = subst (λ (x : ℕ). LegalPairs x ps) s (l .3);
               later = r .later;
-              is = tail-same e
-            }
+              is = tail-same e;
+            },
           )
 
   pub matches :
@@ -230,7 +230,7 @@ module _ {o : Ops} where
         count = omega (arith, r .count);
         legal = (le, lt, v-legal, subst (λ (x : ℕ). LegalPairs x (r .pairs)) s (r .legal));
         later = r .later;
-        is = ap (λ t. word 11 g v ∷ t) (r .is)
+        is = ap (λ t. word 11 g v ∷ t) (r .is);
       }
 
   pub matches-first : (n f due m w : ℕ) (rest : List ℕ) → 0 < due → MatchesRest o n f due m (w ∷ rest) → kind-of w ≡ 11
@@ -272,7 +272,7 @@ module _ {o : Ops} where
         tail = r .tail;
         legal = (le, lt, v-legal, subst (λ (x : ℕ). LegalPairs x (r .pairs)) s (r .legal));
         later = r .later;
-        is = ap (λ t. word 13 g v ∷ t) (r .is)
+        is = ap (λ t. word 13 g v ∷ t) (r .is);
       }
 
 module _ {o : Ops} (laws : Laws o) where
@@ -313,12 +313,12 @@ module _ {o : Ops} (laws : Laws o) where
           elim (rows-first {o = o} n (word 12 f v) rest (subst (RowsRest o n) (sym e) (r .later))) [ inl a ↦ omega (arith, k, a) | inr a ↦ omega (arith, k, a) ])
       go (x ∷ xs) l c e =
           let small = laws .below-end (x .weight) (l .0 .of-kind) in
-          let z = same-parts 12 f v 12 0 (x .weight) fit (omega arith, omega arith) (head-same e) in
-          ( omega arith
-          , z .1
-          , subst (Weight o) (sym (z .2)) (l .0 .of-kind)
-          , (λ h. l .0 .nonzero (sym (z .2) ∙ h))
-          , record {
+          let z = same-parts 12 f v 12 0 (x .weight) fit (omega arith, omega arith) (head-same e) in (
+            omega arith,
+            z .1,
+            subst (Weight o) (sym (z .2)) (l .0 .of-kind),
+            (λ h. l .0 .nonzero (sym (z .2) ∙ h)),
+            record {
               pairs = x .sets;
               tail = joined emission-words xs ++ r .tail;
               legal = l .0 .sets-legal;
@@ -328,10 +328,10 @@ module _ {o : Ops} (laws : Laws o) where
                 count = omega arith;
                 legal = l .1;
                 later = r .later;
-                is = refl
+                is = refl;
               };
-              is = tail-same e ∙ append-assoc (set-words (x .sets)) (joined emission-words xs) (r .tail)
-            }
+              is = tail-same e ∙ append-assoc (set-words (x .sets)) (joined emission-words xs) (r .tail);
+            },
           )
 
   pub weighs :
@@ -350,10 +350,10 @@ module _ {o : Ops} (laws : Laws o) where
         later = r .later .later;
         is =
             ap (λ t. word 12 0 v ∷ t)
-            ( r .is ∙
+            (r .is ∙
             ap (λ t. set-words (r .pairs) ++ t) (r .later .is) ∙
             sym (append-assoc (set-words (r .pairs)) (joined emission-words (r .later .emissions)) (r .later .tail))
-            )
+            );
       }
 
   pub setting :
@@ -367,9 +367,10 @@ module _ {o : Ops} (laws : Laws o) where
       no x =
           let k = parts-of-word 13 g v fit .0 in
           elim (emissions-first n due (word 13 g v) rest x) [
-            inl a ↦ omega (arith, k, a .0)
-          | inr a ↦ elim (rows-first {o = o} n (word 13 g v) rest (a .1)) [ inl b ↦ omega (arith, k, b) | inr b ↦ omega (arith, k, b) ]
+            | inl a ↦ omega (arith, k, a .0)
+            | inr a ↦ elim (rows-first {o = o} n (word 13 g v) rest (a .1)) [ inl b ↦ omega (arith, k, b) | inr b ↦ omega (arith, k, b) ]
           ]
+
       go :
           (ps : List Pair) →
           LegalPairs f ps →
@@ -378,17 +379,17 @@ module _ {o : Ops} (laws : Laws o) where
       go [] l e = absurd (no (subst (EmissionsRest o n due) (sym e) (r .later)))
       go (p ∷ ps) l e =
           let z = same-parts 13 g v 13 (p .0) (p .1) fit (fit-pair f p ps l) (head-same e) in
-          let s : suc (p .0) ≡ g + 1 = omega (arith, z .1) in
-          ( omega (arith, l .0, z .1)
-          , omega (arith, l .1, z .1)
-          , subst (λ (x : ℕ). LegalValue x v) (sym (z .1)) (subst (λ (x : ℕ). LegalValue (p .0) x) (sym (z .2)) (l .2))
-          , record {
+          let s : suc (p .0) ≡ g + 1 = omega (arith, z .1) in (
+            omega (arith, l .0, z .1),
+            omega (arith, l .1, z .1),
+            subst (λ (x : ℕ). LegalValue x v) (sym (z .1)) (subst (λ (x : ℕ). LegalValue (p .0) x) (sym (z .2)) (l .2)),
+            record {
               pairs = ps;
               tail = r .tail;
               legal = subst (λ (x : ℕ). LegalPairs x ps) s (l .3);
               later = r .later;
-              is = tail-same e
-            }
+              is = tail-same e;
+            },
           )
 
   -- legal matches of the fields from f on, as many as are due
@@ -426,32 +427,32 @@ module _ {o : Ops} (laws : Laws o) where
   rows-close n small = ends {o = o} n [] small refl
 
   emissions-close : (n due : ℕ) → n < value-end → (ws : List ℕ) × EmissionsRest o n due ws
-  emissions-close n due small =
-      ( joined emission-words (ones due) ++ (word 14 0 n ∷ [])
-      , record {
-          emissions = ones due;
-          tail = word 14 0 n ∷ [];
-          count = length-ones due;
-          legal = legal-ones due;
-          later = rows-close n small;
-          is = refl
-        }
-      )
+  emissions-close n due small = (
+    joined emission-words (ones due) ++ (word 14 0 n ∷ []),
+    record {
+      emissions = ones due;
+      tail = word 14 0 n ∷ [];
+      count = length-ones due;
+      legal = legal-ones due;
+      later = rows-close n small;
+      is = refl;
+    },
+  )
 
   -- some words complete the table in an open state
   pub completes : (n : ℕ) (s : State) → Open n s → (ws : List ℕ) × Rest o n s ws
   completes n Head h = (word 14 0 n ∷ [], rows-close n h)
   completes n (Matches f due m) h =
-      let t = emissions-close n m (h .0) in
-      ( match-words (first-pairs f due) ++ t .0
-      , record {
+      let t = emissions-close n m (h .0) in (
+        match-words (first-pairs f due) ++ t .0,
+        record {
           pairs = first-pairs f due;
           tail = t .0;
           count = length-first f due;
           legal = legal-first f due (h .2);
           later = t .1;
-          is = refl
-        }
+          is = refl;
+        },
       )
   completes n (Emissions due) h = emissions-close n due (h .0)
   completes n (Sets f due) h = let t = emissions-close n due (h .0) in (t .0, no-sets {o = o} n f due (t .0) (t .1))
@@ -479,20 +480,20 @@ module _ (o : Ops) where
       t ≡ next-due 0 f v →
       Leads o n Head (word 10 f v) (n + 1) t
   head-leads n f v t fit small few e =
-      subst (λ (x : State). Leads o n Head (word 10 f v) (n + 1) x) (sym e)
-      ( due-open (n + 1) 0 f v small (omega arith) (fit .1)
-      , (λ rest r. due-to {o = o} (n + 1) 0 f v rest (opened {o = o} n f v rest fit (omega arith) r .2))
-      , (λ rest r. opens {o = o} n f v rest (fit .1) (due-from {o = o} (n + 1) 0 f v rest r))
+      subst (λ (x : State). Leads o n Head (word 10 f v) (n + 1) x) (sym e) (
+        due-open (n + 1) 0 f v small (omega arith) (fit .1),
+        (λ rest r. due-to {o = o} (n + 1) 0 f v rest (opened {o = o} n f v rest fit (omega arith) r .2)),
+        (λ rest r. opens {o = o} n f v rest (fit .1) (due-from {o = o} (n + 1) 0 f v rest r)),
       )
 
   pub end-leads : (n f v : ℕ) → Fit f v → n < value-end → f ≡ 0 → v ≡ n → Leads o n Head (word 14 f v) n End
-  end-leads n f v fit small e i =
-      ( tt
-      , (λ rest r. ended {o = o} n f v rest fit r .2)
-      , (λ rest r.
-            subst (λ (x : ℕ). RowsRest o n (word 14 x v ∷ rest)) (sym e)
-            (subst (λ (x : ℕ). RowsRest o n (word 14 0 x ∷ rest)) (sym i) (ends {o = o} n rest small r)))
-      )
+  end-leads n f v fit small e i = (
+    tt,
+    (λ rest r. ended {o = o} n f v rest fit r .2),
+    (λ rest r.
+        subst (λ (x : ℕ). RowsRest o n (word 14 x v ∷ rest)) (sym e)
+        (subst (λ (x : ℕ). RowsRest o n (word 14 0 x ∷ rest)) (sym i) (ends {o = o} n rest small r))),
+  )
 
   pub match-leads :
       (n f due m g v : ℕ) (t : State) →
@@ -505,10 +506,10 @@ module _ (o : Ops) where
       Leads o n (Matches f due m) (word 11 g v) n t
   match-leads n f due m g v t h exists legal le few e =
       let fit : Fit g v = (omega arith, omega (arith, legal)) in
-      subst (λ (x : State). Leads o n (Matches f due m) (word 11 g v) n x) (sym e)
-      ( due-open n (g + 1) (due - 1) m (h .0) (omega (arith, h .1)) (h .3)
-      , (λ rest r. due-to {o = o} n (g + 1) (due - 1) m rest (matched {o = o} n f due m g v rest fit (h .1) r .3))
-      , (λ rest r. matches {o = o} n f due m g v rest (h .1) le exists legal (due-from {o = o} n (g + 1) (due - 1) m rest r))
+      subst (λ (x : State). Leads o n (Matches f due m) (word 11 g v) n x) (sym e) (
+        due-open n (g + 1) (due - 1) m (h .0) (omega (arith, h .1)) (h .3),
+        (λ rest r. due-to {o = o} n (g + 1) (due - 1) m rest (matched {o = o} n f due m g v rest fit (h .1) r .3)),
+        (λ rest r. matches {o = o} n f due m g v rest (h .1) le exists legal (due-from {o = o} n (g + 1) (due - 1) m rest r)),
       )
 
   pub weight-leads :
@@ -520,11 +521,11 @@ module _ (o : Ops) where
       Weight o v →
       (v ≡ o .zero → ⊥) →
       Leads o n (Emissions due) (word 12 f v) n (Sets 0 (due - 1))
-  weight-leads laws n due f v fit small some e weight nonzero =
-      ( (small, omega arith)
-      , (λ rest r. weighed laws n due f v rest fit r .4)
-      , (λ rest r. subst (λ (x : ℕ). EmissionsRest o n due (word 12 x v ∷ rest)) (sym e) (weighs laws n due v rest some weight nonzero r))
-      )
+  weight-leads laws n due f v fit small some e weight nonzero = (
+    (small, omega arith),
+    (λ rest r. weighed laws n due f v rest fit r .4),
+    (λ rest r. subst (λ (x : ℕ). EmissionsRest o n due (word 12 x v ∷ rest)) (sym e) (weighs laws n due v rest some weight nonzero r)),
+  )
 
   pub set-leads :
       (laws : Laws o) (n f due g v : ℕ) →
@@ -534,10 +535,10 @@ module _ (o : Ops) where
       f ≤ g →
       Leads o n (Sets f due) (word 13 g v) n (Sets (g + 1) due)
   set-leads laws n f due g v small exists legal le =
-      let fit : Fit g v = (omega arith, omega (arith, legal)) in
-      ( (small, omega arith)
-      , (λ rest r. setting laws n f due g v rest fit r .3)
-      , (λ rest r. sets {o = o} n f due g v rest le exists legal r)
+      let fit : Fit g v = (omega arith, omega (arith, legal)) in (
+        (small, omega arith),
+        (λ rest r. setting laws n f due g v rest fit r .3),
+        (λ rest r. sets {o = o} n f due g v rest le exists legal r),
       )
 
 -- the kinds that a state's next word may have
@@ -650,8 +651,8 @@ pub no-match :
 no-match o n s f due m w g v rest e i fit h wrong r =
     let p = subst (Open n) e h in
     let z =
-        matched {o = o} n f due m g v rest fit (p .1)
-        (subst (λ (x : ℕ). MatchesRest o n f due m (x ∷ rest)) i (subst (λ (x : State). Rest o n x (w ∷ rest)) e r)) in
+    matched {o = o} n f due m g v rest fit (p .1)
+    (subst (λ (x : ℕ). MatchesRest o n f due m (x ∷ rest)) i (subst (λ (x : State). Rest o n x (w ∷ rest)) e r)) in
     wrong (omega (arith, z .1, p .1)) (z .2)
 
 pub no-set :
@@ -664,6 +665,6 @@ pub no-set :
     ⊥
 no-set o laws n s f due w g v rest e i fit wrong r =
     let z =
-        setting laws n f due g v rest fit
-        (subst (λ (x : ℕ). SetsRest o n f due (x ∷ rest)) i (subst (λ (x : State). Rest o n x (w ∷ rest)) e r)) in
+    setting laws n f due g v rest fit
+    (subst (λ (x : ℕ). SetsRest o n f due (x ∷ rest)) i (subst (λ (x : State). Rest o n x (w ∷ rest)) e r)) in
     wrong (z .1) (z .2)

@@ -45,7 +45,7 @@ start-listed o xs was = record {
   nine = refl;
   count = refl;
   written = refl;
-  fits = omega arith
+  fits = omega arith;
 }
 
 pub in-left : {X : Type 0} (x : X) (xs ys : List X) → In x xs → In x (xs ++ ys)
@@ -65,10 +65,10 @@ in-push-cases x y (z ∷ xs) (inr m) = elim (in-push-cases x y xs m) [ inl a ↦
 
 ascending-push : (ss : List (List ℕ)) (t : List ℕ) → Ascending ss → ((u : List ℕ) → In u ss → before u t ≡ true) → Ascending (ss ++ (t ∷ []))
 ascending-push [] t a h = ((λ u i. elim i [ ]), tt)
-ascending-push (s ∷ ss) t a h =
-    ( (λ u i. elim (in-push-cases u t ss i) [ inl m ↦ a .0 u m | inr e ↦ subst (λ (y : List ℕ). before s y ≡ true) (sym e) (h s (inl refl)) ])
-    , ascending-push ss t (a .1) (λ u i. h u (inr i))
-    )
+ascending-push (s ∷ ss) t a h = (
+  (λ u i. elim (in-push-cases u t ss i) [ inl m ↦ a .0 u m | inr e ↦ subst (λ (y : List ℕ). before s y ≡ true) (sym e) (h s (inl refl)) ]),
+  ascending-push ss t (a .1) (λ u i. h u (inr i)),
+)
 
 frames-push : (xs : List Sent) (x : Sent) → frames-of (xs ++ (x ∷ [])) ≡ frames-of xs ++ (x .frame ∷ [])
 frames-push xs x = map-append (λ (y : Sent). y .frame) xs (x ∷ [])
@@ -94,11 +94,11 @@ next-facts last xs t e = go (least last None xs) e (least-found last None xs)
     go (Some u) e h =
         let f : t ≡ u = cc (e) in
         elim (h .0) [
-          inl x ↦ absurd (let z : _≡_ {A = ℕ} 0 1 = cc (x) in omega arith)
-        | inr m ↦
-          ( subst (λ (y : List ℕ). In y (frames-of xs)) (sym f) (m .0)
-          , subst (λ (y : List ℕ). above last y ≡ true) (sym f) (m .1)
-          , (λ w i v. subst (λ (y : List ℕ). before w y ≡ false) (sym f) (h .1 w i v))
+          | inl x ↦ absurd (let z : _≡_ {A = ℕ} 0 1 = cc (x) in omega arith)
+          | inr m ↦ (
+            subst (λ (y : List ℕ). In y (frames-of xs)) (sym f) (m .0),
+            subst (λ (y : List ℕ). above last y ≡ true) (sym f) (m .1),
+            (λ w i v. subst (λ (y : List ℕ). before w y ≡ false) (sym f) (h .1 w i v)),
           )
         ]
 
@@ -137,27 +137,27 @@ listed-more o xs last was n is is′ t w l e v size room h =
     let more = joined-push (l .list) x in
     let front : take n is ≡ joined sent-words (l .list) = ap (take n) (l .written) ∙ take-at (joined sent-words (l .list)) (drop n was) n (sym (l .count)) in
     let back : drop (n + 9) is ≡ drop (n + 9) was =
-        sym (drop-drop 9 n is) ∙ ap (drop 9) (ap (drop n) (l .written) ∙ drop-at (joined sent-words (l .list)) (drop n was) n (sym (l .count))) ∙ drop-drop 9 n was in
+    sym (drop-drop 9 n is) ∙ ap (drop 9) (ap (drop n) (l .written) ∙ drop-at (joined sent-words (l .list)) (drop n was) n (sym (l .count))) ∙ drop-drop 9 n was in
     let len = length-append (joined sent-words (l .list)) (sent-words x) in
     record {
       list = l .list ++ (x ∷ []);
       ascending = subst Ascending (sym push) (ascending-push (frames-of (l .list)) t (l .ascending) up);
       weighed = λ y i. elim (in-push-cases y x (l .list) i) [
-          inl m ↦ l .weighed y m
+        | inl m ↦ l .weighed y m
         | inr m ↦ ap (λ z. z .weight) m ∙ ap value-of (v ∙ ap (λ z. weight-in o (z .frame) (o .zero) xs) (sym m))
-        ];
+      ];
       only = λ u i. elim (in-push-cases u t (frames-of (l .list)) (subst (In u) push i)) [
-          inl m ↦ l .only u m
+        | inl m ↦ l .only u m
         | inr m ↦ subst (λ (y : List ℕ). In y (frames-of xs)) (sym m) (f .0)
-        ];
+      ];
       bound = λ u i. elim (in-push-cases u t (frames-of (l .list)) (subst (In u) push i)) [
-          inl m ↦ asymmetric u t (up u m)
+        | inl m ↦ asymmetric u t (up u m)
         | inr m ↦ subst (λ (y : List ℕ). before t y ≡ false) (sym m) (irreflexive t)
-        ];
+      ];
       every = λ u i b. subst (In u) (sym push) (elim (cases-bool (above last u)) [
-          inl a ↦ subst (λ (y : List ℕ). In y (frames-of (l .list) ++ (t ∷ []))) (connected t u b (f .2 u i a)) (in-push t (frames-of (l .list)))
+        | inl a ↦ subst (λ (y : List ℕ). In y (frames-of (l .list) ++ (t ∷ []))) (connected t u b (f .2 u i a)) (in-push t (frames-of (l .list)))
         | inr a ↦ in-left u (frames-of (l .list)) (t ∷ []) (l .every u i a)
-        ]);
+      ]);
       nine = ap (λ k. k + 9) (l .nine) ∙ (let z : 9 * length (l .list) + 9 ≡ 9 * length (l .list ++ (x ∷ [])) = omega (arith, length-append (l .list) (x ∷ [])) in z);
       count = ap (λ k. k + 9) (l .count) ∙ ap (λ k. length (joined sent-words (l .list)) + k) (sym size) ∙ sym len ∙ ap length (sym more);
       written =
@@ -165,7 +165,7 @@ listed-more o xs last was n is is′ t w l e v size room h =
           ap (λ y. joined sent-words (l .list) ++ (sent-words x ++ y)) back ∙
           sym (append-assoc (joined sent-words (l .list)) (sent-words x) (drop (n + 9) was)) ∙
           ap (λ y. y ++ drop (n + 9) was) (sym more);
-      fits = room
+      fits = room;
     }
 
 pub listed-full :
@@ -181,10 +181,10 @@ listed-full o xs last was n is t l e small =
       frames = frames-of (l .list) ++ (t ∷ []);
       ascending = ascending-push (frames-of (l .list)) t (l .ascending) up;
       only = λ u i. elim (in-push-cases u t (frames-of (l .list)) i) [
-          inl m ↦ l .only u m
+        | inl m ↦ l .only u m
         | inr m ↦ subst (λ (y : List ℕ). In y (frames-of xs)) (sym m) (f .0)
-        ];
-      many = omega (arith, l .nine, length-append (frames-of (l .list)) (t ∷ []), length-map (l .list) (λ (x : Sent). x .frame))
+      ];
+      many = omega (arith, l .nine, length-append (frames-of (l .list)) (t ∷ []), length-map (l .list) (λ (x : Sent). x .frame));
     }
 
 pub listed-all :
@@ -200,7 +200,8 @@ listed-all o xs last was n is l e =
       only = l .only;
       every = λ t i. l .every t i (none-left last xs e t i);
       count = l .count;
-      written = l .written
+      written = l .written;
+      fits = l .fits;
     }
 
 length-words : (f : ℕ) (s : List ℕ) → length (words-from f s) ≡ length s

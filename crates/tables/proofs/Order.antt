@@ -95,53 +95,54 @@ found-take :
     Found last (Some (x .frame)) xs r →
     Found last best (x ∷ xs) r
 found-take last best None x xs a b h = absurd (let z : _≡_ {A = ℕ} 0 1 = cc (h .0) in omega arith)
-found-take last best (Some t) x xs a b h =
-    ( inr (elim (h .0) [
-        inl e ↦ let f : x .frame ≡ t = cc (e) in (inl (sym f), subst (λ (y : List ℕ). above last y ≡ true) f a)
-      | inr m ↦ (inr (m .0), m .1)
-      ])
-    , (λ u i v. elim i [ inl e ↦ subst (λ (y : List ℕ). before y t ≡ false) (sym e) (h .2 (x .frame) refl) | inr m ↦ h .1 u m v ])
-    , (λ u e. not-after u (subst (λ (y : Option (List ℕ)). below (x .frame) y ≡ true) e b))
-    )
+found-take last best (Some t) x xs a b h = (
+  inr (elim (h .0) [
+    | inl e ↦ let f : x .frame ≡ t = cc (e) in (inl (sym f), subst (λ (y : List ℕ). above last y ≡ true) f a)
+    | inr m ↦ (inr (m .0), m .1)
+  ]),
+  (λ u i v. elim i [ inl e ↦ subst (λ (y : List ℕ). before y t ≡ false) (sym e) (h .2 (x .frame) refl) | inr m ↦ h .1 u m v ]),
+  (λ u e. not-after u (subst (λ (y : Option (List ℕ)). below (x .frame) y ≡ true) e b)),
+)
   where
     not-after : (u : List ℕ) → before (x .frame) u ≡ true → before u t ≡ false
     not-after u p = elim (cases-bool (before u t)) [
-        inl q ↦ absurd (true≢false (sym (between (x .frame) u t p (h .2 (x .frame) refl)) ∙ asymmetric u t q))
+      | inl q ↦ absurd (true≢false (sym (between (x .frame) u t p (h .2 (x .frame) refl)) ∙ asymmetric u t q))
       | inr q ↦ q
-      ]
+    ]
 
 found-skip :
     (last best r : Option (List ℕ)) (x : Sent) (xs : List Sent) →
     (above last (x .frame) && below (x .frame) best) ≡ false →
     Found last best xs r →
     Found last best (x ∷ xs) r
-found-skip last best None x xs c h =
-    ( h .0
-    , λ t i. elim i [ inl e ↦ subst (λ (y : List ℕ). above last y ≡ false) (sym e) head | inr m ↦ h .1 t m ]
-    )
+found-skip last best None x xs c h = (
+  h .0,
+  λ t i. elim i [ inl e ↦ subst (λ (y : List ℕ). above last y ≡ false) (sym e) head | inr m ↦ h .1 t m ],
+)
   where
     head : above last (x .frame) ≡ false
     head = elim (and-cases (above last (x .frame)) (below (x .frame) best) c) [
-        inl a ↦ a
+      | inl a ↦ a
       | inr b ↦ absurd (true≢false (subst (λ (y : Option (List ℕ)). below (x .frame) y ≡ false) (h .0) b))
-      ]
-found-skip last best (Some t) x xs c h =
-    ( elim (h .0) [ inl e ↦ inl e | inr m ↦ inr (inr (m .0), m .1) ]
-    , (λ u i v. elim i [ inl e ↦ subst (λ (y : List ℕ). before y t ≡ false) (sym e) (head (subst (λ (y : List ℕ). above last y ≡ true) e v)) | inr m ↦ h .1 u m v ])
-    , h .2
-    )
+    ]
+found-skip last best (Some t) x xs c h = (
+  elim (h .0) [ inl e ↦ inl e | inr m ↦ inr (inr (m .0), m .1) ],
+  (λ u i v. elim i [ inl e ↦ subst (λ (y : List ℕ). before y t ≡ false) (sym e) (head (subst (λ (y : List ℕ). above last y ≡ true) e v)) | inr m ↦ h .1 u m v ]),
+  h .2,
+)
   where
     later : (b : Option (List ℕ)) → below (x .frame) b ≡ false → ((u : List ℕ) → b ≡ Some u → before u t ≡ false) → before (x .frame) t ≡ false
     later None e g = absurd (true≢false e)
     later (Some u) e g = elim (cases-bool (before (x .frame) t)) [
-        inl q ↦ absurd (true≢false (sym (between (x .frame) t u q e) ∙ g u refl))
+      | inl q ↦ absurd (true≢false (sym (between (x .frame) t u q e) ∙ g u refl))
       | inr q ↦ q
-      ]
+    ]
+
     head : above last (x .frame) ≡ true → before (x .frame) t ≡ false
     head v = elim (and-cases (above last (x .frame)) (below (x .frame) best) c) [
-        inl a ↦ absurd (true≢false (sym v ∙ a))
+      | inl a ↦ absurd (true≢false (sym v ∙ a))
       | inr b ↦ later best b (h .2)
-      ]
+    ]
 
 pub least-found : (last best : Option (List ℕ)) (xs : List Sent) → Found last best xs (least last best xs)
 least-found last None [] = (refl, λ t i. elim i [ ])
@@ -150,6 +151,7 @@ least-found last best (x ∷ xs) = go (cases-bool (above last (x .frame) && belo
   where
     Goal : Option (List ℕ) → Type 0
     Goal b = Found last best (x ∷ xs) (least last b xs)
+
     go :
         ((above last (x .frame) && below (x .frame) best) ≡ true) ⊎ ((above last (x .frame) && below (x .frame) best) ≡ false) →
         Found last (Some (x .frame)) xs (least last (Some (x .frame)) xs) →

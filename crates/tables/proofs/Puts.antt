@@ -18,7 +18,7 @@ put-sent xs i a b ys zs room e f =
     let k : i + 1 + (i + 9 - (i + 1)) ≡ i + 9 = omega arith in
     let m : i < i + 1 = omega arith in
     let back : drop (i + 9 - (i + 1)) (drop (i + 1) (set xs i a)) ≡ drop (i + 9) xs =
-        ap (drop (i + 9 - (i + 1))) (drop-set-lt (i + 1) xs i a m) ∙ drop-drop (i + 9 - (i + 1)) (i + 1) xs ∙ ap (λ n. drop n xs) k in
+    ap (drop (i + 9 - (i + 1))) (drop-set-lt (i + 1) xs i a m) ∙ drop-drop (i + 9 - (i + 1)) (i + 1) xs ∙ ap (λ n. drop n xs) k in
     ap (λ t. t ++ (ys ++ drop (i + 9 - (i + 1)) (drop (i + 1) (set xs i a)))) (take-more-set xs i a l) ∙
     ap (λ t. (take i xs ++ (a ∷ [])) ++ (ys ++ t)) back ∙
     append-assoc (take i xs) (a ∷ []) (ys ++ drop (i + 9) xs) ∙

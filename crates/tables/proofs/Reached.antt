@@ -23,26 +23,26 @@ Reached o ws i n s =
     × ((rest : List ℕ) → Rest o n s rest → LegalTable o (take i ws ++ rest))
 
 pub start-reached : (o : Ops) (ws : List ℕ) → Reached o ws 0 0 Head
-start-reached o ws =
-    ( omega arith
-    , (λ rest t.
-          record {
-            rows = t .0;
-            legal = t .1 .each;
-            countable = omega (arith, t .1 .countable);
-            is =
-                t .2 ∙
-                ap (λ k. joined row-words (t .0) ++ (word 14 0 k ∷ []))
-                (let z : length (t .0) ≡ 0 + length (t .0) = omega arith in z)
-          })
-    , (λ rest r.
-          ( r .rows
-          , record { each = r .legal; countable = omega (arith, r .countable) }
-          , r .is ∙
-            ap (λ k. joined row-words (r .rows) ++ (word 14 0 k ∷ []))
-            (let z : 0 + length (r .rows) ≡ length (r .rows) = omega arith in z)
-          ))
-    )
+start-reached o ws = (
+  omega arith,
+  (λ rest t.
+      record {
+        rows = t .0;
+        legal = t .1 .each;
+        countable = omega (arith, t .1 .countable);
+        is =
+            t .2 ∙
+            ap (λ k. joined row-words (t .0) ++ (word 14 0 k ∷ []))
+            (let z : length (t .0) ≡ 0 + length (t .0) = omega arith in z);
+      }),
+  (λ rest r. (
+    r .rows,
+    record { each = r .legal; countable = omega (arith, r .countable) },
+    r .is ∙
+        ap (λ k. joined row-words (r .rows) ++ (word 14 0 k ∷ []))
+        (let z : 0 + length (r .rows) ≡ length (r .rows) = omega arith in z),
+  )),
+)
 
 -- one word more
 one-more : (ws : List ℕ) (i : ℕ) (rest : List ℕ) → i < length ws → take (i + 1) ws ++ rest ≡ take i ws ++ (getD ws i 0 ∷ rest)
@@ -54,11 +54,11 @@ pub reached-more :
     Reached o ws i n s →
     Takes o n s (getD ws i 0) true m t →
     Reached o ws (i + 1) m t
-reached-more o ws i n s m t l r h =
-    ( h .0
-    , (λ rest x. h .1 rest (r .1 (getD ws i 0 ∷ rest) (subst (LegalTable o) (one-more ws i rest l) x)))
-    , (λ rest x. subst (LegalTable o) (sym (one-more ws i rest l)) (r .2 (getD ws i 0 ∷ rest) (h .2 rest x)))
-    )
+reached-more o ws i n s m t l r h = (
+  h .0,
+  (λ rest x. h .1 rest (r .1 (getD ws i 0 ∷ rest) (subst (LegalTable o) (one-more ws i rest l) x))),
+  (λ rest x. subst (LegalTable o) (sym (one-more ws i rest l)) (r .2 (getD ws i 0 ∷ rest) (h .2 rest x))),
+)
 
 rows-some : (o : Ops) (n : ℕ) (ws : List ℕ) → RowsRest o n ws → 0 < length ws
 rows-some o n ws r =
@@ -73,20 +73,20 @@ some-rest : (o : Ops) (n : ℕ) (s : State) → Rest o n s [] → s ≡ End
 some-rest o n Head r = absurd (omega (arith, rows-some o n [] r))
 some-rest o n (Matches f due m) r =
     absurd
-    (omega
-    ( arith
-    , ap length (r .is)
-    , length-append (map (λ p. word 11 (p .0) (p .1)) (r .pairs)) (r .tail)
-    , emissions-some o n m (r .tail) (r .later)
+    (omega (
+      arith,
+      ap length (r .is),
+      length-append (map (λ p. word 11 (p .0) (p .1)) (r .pairs)) (r .tail),
+      emissions-some o n m (r .tail) (r .later),
     ))
 some-rest o n (Emissions due) r = absurd (omega (arith, emissions-some o n due [] r))
 some-rest o n (Sets f due) r =
     absurd
-    (omega
-    ( arith
-    , ap length (r .is)
-    , length-append (map (λ p. word 13 (p .0) (p .1)) (r .pairs)) (r .tail)
-    , emissions-some o n due (r .tail) (r .later)
+    (omega (
+      arith,
+      ap length (r .is),
+      length-append (map (λ p. word 13 (p .0) (p .1)) (r .pairs)) (r .tail),
+      emissions-some o n due (r .tail) (r .later),
     ))
 some-rest o n End r = refl
 
@@ -108,7 +108,7 @@ module _ {o : Ops} (laws : Laws o) where
         within = omega arith;
         begins = begins ws i n s r;
         stuck = λ _ rest x. h rest (r .1 (getD ws i 0 ∷ rest) (subst (LegalTable o) (one-more ws i rest l) x));
-        early = λ e. absurd (omega arith)
+        early = λ e. absurd (omega arith);
       }
 
   pub early-stops :
@@ -123,7 +123,7 @@ module _ {o : Ops} (laws : Laws o) where
         within = omega arith;
         begins = begins ws i n s r;
         stuck = λ l. absurd (omega arith);
-        early = λ _ x. ne (some-rest o n s (r .1 [] (subst (LegalTable o) (sym (whole ws i e)) x)))
+        early = λ _ x. ne (some-rest o n s (r .1 [] (subst (LegalTable o) (sym (whole ws i e)) x)));
       })
 
   pub end-legal : (ws : List ℕ) (i n : ℕ) (s : State) → i ≡ length ws → Reached o ws i n s → s ≡ End → LegalTable o ws

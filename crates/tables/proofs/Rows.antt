@@ -43,7 +43,7 @@ body-append (x ∷ xs) ys a e = cond-false (closes x) _ _ (a .0) ∙ ap suc (bod
 
 hold-append : (xs ys s : List ℕ) → words-hold xs s ≡ true → words-hold (xs ++ ys) s ≡ words-hold ys s
 hold-append [] ys s e = refl
-hold-append (x ∷ xs) ys s e = 
+hold-append (x ∷ xs) ys s e =
     let p = and-parts _ (words-hold xs s) e in
     ap (λ b. b && words-hold (xs ++ ys) s) (p .0) ∙ hold-append xs ys s (p .1)
 
@@ -57,7 +57,7 @@ match-hold f [] ys s l e = e
 match-hold f (p ∷ ps) ys s l e =
     let z = parts-of-word 11 (p .0) (p .1) (fit-pair f p ps l) in
     ap (λ b. b && words-hold (match-words ps ++ ys) s)
-    ( cond-true _ _ _ (eq-eqb _ _ (z .0)) ∙
+    (cond-true _ _ _ (eq-eqb _ _ (z .0)) ∙
     ap (λ i. eqb (getD s i 0) (value-of (word 11 (p .0) (p .1)))) (z .1) ∙
     ap (λ v. eqb (getD s (p .0) 0) v) (z .2)
     ) ∙
@@ -74,11 +74,11 @@ module _ {o : Ops} (laws : Laws o) where
       All (λ w. (kind-of w ≡ 12) ⊎ (kind-of w ≡ 13)) (joined emission-words es)
   emission-kinds [] l = tt
   emission-kinds (e ∷ es) l =
-      let small = laws .below-end (e .weight) (l .0 .of-kind) in
-      ( inl (parts-of-word 12 0 (e .weight) (omega arith, omega arith) .0)
-      , all-append _ (set-words (e .sets)) (joined emission-words es)
-        (all-weaker (λ w. kind-of w ≡ 13) _ (λ w h. inr h) (set-words (e .sets)) (set-kinds 0 (e .sets) (l .0 .sets-legal)))
-        (emission-kinds es (l .1))
+      let small = laws .below-end (e .weight) (l .0 .of-kind) in (
+        inl (parts-of-word 12 0 (e .weight) (omega arith, omega arith) .0),
+        all-append _ (set-words (e .sets)) (joined emission-words es)
+            (all-weaker (λ w. kind-of w ≡ 13) _ (λ w h. inr h) (set-words (e .sets)) (set-kinds 0 (e .sets) (l .0 .sets-legal)))
+            (emission-kinds es (l .1)),
       )
 
   abbrev row-body : Row → List ℕ
@@ -90,9 +90,9 @@ module _ {o : Ops} (laws : Laws o) where
       (all-weaker (λ w. kind-of w ≡ 11) _ (λ w h. closes-not w (kind-of w) refl (λ x. omega (arith, h, x)) (λ x. omega (arith, h, x))) (match-words (r .matches)) (match-kinds 0 (r .matches) (l .matches-legal)))
       (all-weaker (λ w. (kind-of w ≡ 12) ⊎ (kind-of w ≡ 13)) _
       (λ w h. elim h [
-          inl a ↦ closes-not w (kind-of w) refl (λ x. omega (arith, a, x)) (λ x. omega (arith, a, x))
+        | inl a ↦ closes-not w (kind-of w) refl (λ x. omega (arith, a, x)) (λ x. omega (arith, a, x))
         | inr a ↦ closes-not w (kind-of w) refl (λ x. omega (arith, a, x)) (λ x. omega (arith, a, x))
-        ])
+      ])
       (joined emission-words (r .emissions)) (emission-kinds (r .emissions) (l .emissions-legal)))
 
   head-kind : (r : Row) → LegalRow o r → kind-of (word 10 (length (r .matches)) (length (r .emissions))) ≡ 10
@@ -167,9 +167,9 @@ module _ {o : Ops} (laws : Laws o) where
       go (r ∷ after) order legal h =
           let t : List ℕ = joined row-words after ++ end-word (length rows) in
           let b : drop (i + 1) ws ≡ row-body laws r ++ t =
-              tail-same h ∙ append-assoc (row-body laws r) (joined row-words after) (end-word (length rows)) in
+          tail-same h ∙ append-assoc (row-body laws r) (joined row-words after) (end-word (length rows)) in
           let n : body-length (drop (i + 1) ws) ≡ length (row-body laws r) =
-              ap body-length b ∙ body-append (row-body laws r) t (body-open laws r (legal .0)) (tail-closes laws after (length rows) (legal .1) small) in
+          ap body-length b ∙ body-append (row-body laws r) t (body-open laws r (legal .0)) (tail-closes laws after (length rows) (legal .1) small) in
           record {
             before = p .before;
             row = r;
@@ -179,7 +179,7 @@ module _ {o : Ops} (laws : Laws o) where
             passed = p .passed;
             place = p .place;
             end = e ∙ ap (λ m. i + 1 + m) n ∙ (let z : i + 1 + length (row-body laws r) ≡ i + suc (length (row-body laws r)) = omega arith in z);
-            split = drop-more ws i 0 l ∙ h ∙ append-assoc (row-words r) (joined row-words after) (end-word (length rows))
+            split = drop-more ws i 0 l ∙ h ∙ append-assoc (row-words r) (joined row-words after) (end-word (length rows));
           }
 
   pub row-slice : (rows : List Row) (s ws : List ℕ) (i j : ℕ) (r : RowAt o rows s ws i j) → take (j - i) (drop i ws) ≡ row-words (r .row)
@@ -204,7 +204,7 @@ module _ {o : Ops} (laws : Laws o) where
         passed = r .passed;
         held = sym (row-hold laws (r .row) s (r .legal .0)) ∙ ap (λ x. words-hold x s) (sym f) ∙ h;
         found-is = f;
-        part = e ∙ ap (λ k. take (j - i) (drop k ws)) (r .place) ∙ ap (λ k. take k (drop (length (joined row-words (r .before))) ws)) n
+        part = e ∙ ap (λ k. take (j - i) (drop k ws)) (r .place) ∙ ap (λ k. take k (drop (length (joined row-words (r .before))) ws)) n;
       }
 
   pub row-passed :
@@ -215,7 +215,7 @@ module _ {o : Ops} (laws : Laws o) where
   row-passed rows s ws i j r h =
       let t : List ℕ = joined row-words (r .after) ++ end-word (length rows) in
       let q : joined row-words (r .before ++ (r .row ∷ [])) ≡ joined row-words (r .before) ++ row-words (r .row) =
-          joined-append row-words (r .before) (r .row ∷ []) ∙ ap (λ x. joined row-words (r .before) ++ x) (append-nil (row-words (r .row))) in
+      joined-append row-words (r .before) (r .row ∷ []) ∙ ap (λ x. joined row-words (r .before) ++ x) (append-nil (row-words (r .row))) in
       let m = length-append (joined row-words (r .before)) (row-words (r .row)) in
       let no-hold = sym (row-hold laws (r .row) s (r .legal .0)) ∙ ap (λ x. words-hold x s) (sym (row-slice rows s ws i j r)) ∙ h in
       record {
@@ -229,7 +229,7 @@ module _ {o : Ops} (laws : Laws o) where
             ap (λ k. drop k ws) (r .end) ∙
             sym (drop-drop (length (row-words (r .row))) i ws) ∙
             ap (drop (length (row-words (r .row)))) (r .split) ∙
-            drop-at (row-words (r .row)) t (length (row-words (r .row))) refl
+            drop-at (row-words (r .row)) t (length (row-words (r .row))) refl;
       }
 
   -- where no head stands, no row is left

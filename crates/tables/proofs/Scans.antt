@@ -138,7 +138,7 @@ pub weight-step :
     weight-in o t b (sends (drop (i + 1) ws) s) ≡ weight-in o t a (sends (drop i ws) s)
 weight-step o ws s t f i a b v r l k e x h z =
     let g : b ≡ cond (same (applied (drop (i + 1) ws) s) t) (o .join a (value-of (getD ws i 0))) a =
-        z ∙ ap (λ y. cond y (o .join a v) a) (h ∙ ap (λ y. same y t) e) ∙ ap (λ y. cond (same (applied (drop (i + 1) ws) s) t) (o .join a y) a) x in
+    z ∙ ap (λ y. cond y (o .join a v) a) (h ∙ ap (λ y. same y t) e) ∙ ap (λ y. cond (same (applied (drop (i + 1) ws) s) t) (o .join a y) a) x in
     ap (λ y. weight-in o t y (sends (drop (i + 1) ws) s)) g ∙ sym (ap (weight-in o t a) (sends-more ws s i l k))
 
 -- one more frame for the least

@@ -66,7 +66,7 @@ Open n End = Unit {0}
 abbrev pub Takes : Ops → ℕ → State → ℕ → Bool → ℕ → State → Type 0
 Takes o n s w r m t =
     When r
-    ( Open m t
+    (Open m t
     × ((rest : List ℕ) → Rest o n s (w ∷ rest) → Rest o m t rest)
     × ((rest : List ℕ) → Rest o m t rest → Rest o n s (w ∷ rest))
     )

@@ -2,7 +2,7 @@
 use mathlib.Core.Path.{_≡_}
 use mathlib.Core.Bool.{Bool, true, cond, _&&_, _||_}
 use mathlib.Core.List.{List, [], _∷_, _++_, map}
-use Prim.Native.Nat.{ℕ, suc, _*_, _<_}
+use Prim.Native.Nat.{ℕ, suc, _*_, _<_, _≤_}
 use lib.Dec.{eqb, ltb}
 use lib.ListN.{length, getD, set, drop}
 use Rattle.std.specs.shelf.Lists.{joined}
@@ -74,6 +74,7 @@ pub record RowSent (o : Ops) (xs : List Sent) (was : List ℕ) (n : ℕ) (is : L
   pub every : (t : List ℕ) → In t (map (λ x. x .frame) xs) → In t (map (λ x. x .frame) list)
   pub count : n ≡ length (joined sent-words list)
   pub written : is ≡ joined sent-words list ++ drop n was
+  pub fits : n ≤ length was
 
 -- a row sends more frames than so many words hold
 pub record RowFull (xs : List Sent) (room : ℕ) : Type 0 where

@@ -9,7 +9,6 @@ ghost use Rattle.weights.specs.Weights.{Ops, Laws};
 ghost use Rattle.tables.specs.declared.state.State.the-variants.{Head, Matches, Emissions, Sets, End};
 ghost use Rattle.tables.specs.Rows.{LegalTable};
 ghost use Rattle.tables.specs.Checking.{Takes, Open, Stops, next-due};
-
 use super::END;
 use super::HEAD;
 use super::MATCH;
@@ -147,7 +146,14 @@ impl Checker {
         match (self.state, word.kind) {
             (State::Head, HEAD) => self.head(word.field, word.value),
             (State::Head, END) => self.end(word.field, word.value),
-            (State::Matches { from, due, emissions }, MATCH) => match Setting::new(word.field, word.value) {
+            (
+                State::Matches {
+                    from,
+                    due,
+                    emissions,
+                },
+                MATCH,
+            ) => match Setting::new(word.field, word.value) {
                 Some(setting) => self.matched(from, due, emissions, setting),
                 None => false,
             },

@@ -13,7 +13,6 @@ ghost use Rattle.faults.specs.declared.layers.FrameFault.the-variants.{NoRoom};
 ghost use Rattle.tables.specs.Emits.{sent-length, sent-words};
 ghost use Rattle.tables.specs.Scans.{RowSent, RowFull, applied as applied-to, sends, weight-in, least, above, below, values-of};
 ghost use Rattle.tables.specs.Forwards.{Answered, Refused};
-
 use super::SET;
 use super::WEIGHT;
 use super::check::CheckedTable;
@@ -135,7 +134,8 @@ fn send_row<K: WeightKind>(row: &[u32], frame: Frame, out: &mut [u32]) -> Result
 impl<'a, K: WeightKind> CheckedTable<'a, K> {
     // Writes the answer to a frame, as far as there is room.
     fn answer(&self, frame: &[u32], out: &mut [u32]) -> Result<usize, FrameFault>
-        ensures { λ r. ⌜ ((rows : List Row) → LegalRows (K·WeightKind .ops) rows → now (now (self .entry) .words) ≡ table-words rows → Cases r (λ n. Answered (K·WeightKind .ops) rows (now (frame .entry)) (now (out .entry)) n (now (out .exit))) (λ e. Refused (K·WeightKind .ops) rows (now (frame .entry)) (length (now (out .entry))) e)) ⌝ }
+        ensures within { λ r. ⌜ Cases r (λ n. n ≤ length (now (out .entry))) (λ _. Unit {0}) ⌝ }
+        ensures exact { λ r. ⌜ ((rows : List Row) → LegalRows (K·WeightKind .ops) rows → now (now (self .entry) .words) ≡ table-words rows → Cases r (λ n. Answered (K·WeightKind .ops) rows (now (frame .entry)) (now (out .entry)) n (now (out .exit))) (λ e. Refused (K·WeightKind .ops) rows (now (frame .entry)) (length (now (out .entry))) e)) ⌝ }
     {
         let frame = Frame::read(frame)?;
         match self.lookup(&frame) {
@@ -148,6 +148,7 @@ impl<'a, K: WeightKind> CheckedTable<'a, K> {
     // The answer is the number of words written; a refusal leaves zeros.
     pub fn forward(&self, frame: &[u32], out: &mut [u32]) -> Result<usize, FrameFault>
         ensures exact { λ r. ⌜ ((rows : List Row) → LegalRows (K·WeightKind .ops) rows → now (now (self .entry) .words) ≡ table-words rows → Cases r (λ n. Answered (K·WeightKind .ops) rows (now (frame .entry)) (now (out .entry)) n (now (out .exit))) (λ e. Refused (K·WeightKind .ops) rows (now (frame .entry)) (length (now (out .entry))) e)) ⌝ }
+        ensures within { λ r. ⌜ Cases r (λ n. n ≤ length (now (out .entry))) (λ _. Unit {0}) ⌝ }
         ensures zeros { λ r. ⌜ Cases r (λ _. Unit {0}) (λ _. now (out .exit) ≡ replicate (length (now (out .entry))) 0) ⌝ }
     {
         let answer = self.answer(frame, out);

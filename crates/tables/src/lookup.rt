@@ -10,7 +10,6 @@ ghost use Rattle.tables.specs.Rows.{Row, LegalRows, table-words};
 ghost use Rattle.tables.specs.Emits.{holds};
 ghost use Rattle.tables.specs.Scans.{closes, body-length, words-hold};
 ghost use Rattle.tables.specs.Forwards.{Decides};
-
 use super::END;
 use super::HEAD;
 use super::MATCH;

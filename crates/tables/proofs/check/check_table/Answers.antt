@@ -20,11 +20,11 @@ returns-then-not-step g c =
     (c .step .last .self .rows) (c .step .last .self .state) (c .loop-place-test .taken) (c .loop-place .inv) (c .if-not-step .ensures tt)
 
 pub returns-in-End : need.returns-in-End
-returns-in-End g c =
-    ( refl
-    , end-legal (g .K·WeightKind·met .lawful) (c .args .words .now) (c .loop-place .place) (c .loop-place .checker .rows) (c .loop-place .checker .state)
-      (omega arith) (c .loop-place .inv) (c .in-End .is)
-    )
+returns-in-End g c = (
+  refl,
+  end-legal (g .K·WeightKind·met .lawful) (c .args .words .now) (c .loop-place .place) (c .loop-place .checker .rows) (c .loop-place .checker .state)
+      (omega arith) (c .loop-place .inv) (c .in-End .is),
+)
 
 pub returns-in-rest : need.returns-in-rest
 returns-in-rest g c =

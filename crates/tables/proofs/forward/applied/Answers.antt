@@ -21,21 +21,21 @@ loop-place-again c =
     let e = c .split-word .ensures in
     let m = applied-more ws s i (c .loop-place-test .taken) (sym (e .kind) ∙ c .if-word-ne-SET .left) in
     elim (c .match-new .came) [
-      in-Some w ↦
-        let f = w .in-Some .ensures tt .some in
-        ap (applied (drop (i + 1) ws))
-        ( ap (λ x. x .values) (w .sent-is) ∙ w .with-sent .ensures ∙
-        sym (put-some (getD ws i 0) (w .in-Some .setting .field) (w .in-Some .setting .value) s (f .0 ∙ e .field) (f .1 ∙ e .value) (w .in-Some .setting .exists) (w .in-Some .setting .legal))
-        ) ∙
-        sym m ∙
-        c .loop-place .inv
-    | in-rest w ↦
-        ap (applied (drop (i + 1) ws))
-        ( ap (λ x. x .values) (w .sent-is) ∙
-        sym (put-none (getD ws i 0) (c .split-word .result .field) (c .split-word .result .value) s (e .field) (e .value) (w .in-rest .ensures tt .none))
-        ) ∙
-        sym m ∙
-        c .loop-place .inv
+      | in-Some w ↦
+          let f = w .in-Some .ensures tt .some in
+          ap (applied (drop (i + 1) ws))
+          (ap (λ x. x .values) (w .sent-is) ∙ w .with-sent .ensures ∙
+          sym (put-some (getD ws i 0) (w .in-Some .setting .field) (w .in-Some .setting .value) s (f .0 ∙ e .field) (f .1 ∙ e .value) (w .in-Some .setting .exists) (w .in-Some .setting .legal))
+          ) ∙
+          sym m ∙
+          c .loop-place .inv
+      | in-rest w ↦
+          ap (applied (drop (i + 1) ws))
+          (ap (λ x. x .values) (w .sent-is) ∙
+          sym (put-none (getD ws i 0) (c .split-word .result .field) (c .split-word .result .value) s (e .field) (e .value) (w .in-rest .ensures tt .none))
+          ) ∙
+          sym m ∙
+          c .loop-place .inv
     ]
 
 pub returns : need.returns

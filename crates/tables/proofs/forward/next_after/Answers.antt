@@ -17,20 +17,20 @@ loop-place-again c =
     let a = values-of (c .loop-place .best) in
     let e = c .split-word .ensures in
     elim (c .if-word-eq-WEIGHT .came) [
-      then-word-eq-WEIGHT·then-is-between w ↦
-        least-step ws s (w .applied-sent .result .values) i last a (values-of (c .if-word-eq-WEIGHT .best)) (c .loop-place-test .taken)
-        (sym (e .kind) ∙ w .if-word-eq-WEIGHT .taken) (w .applied-sent .ensures)
-        (ap values-of (w .best-is) ∙ sym (cond-true _ _ _ (sym (w .is-between .ensures) ∙ w .if-is-between .taken))) ∙
-        c .loop-place .inv
-    | then-word-eq-WEIGHT·else-is-between w ↦
-        least-step ws s (w .applied-sent .result .values) i last a (values-of (c .if-word-eq-WEIGHT .best)) (c .loop-place-test .taken)
-        (sym (e .kind) ∙ w .if-word-eq-WEIGHT .taken) (w .applied-sent .ensures)
-        (ap values-of (w .best-is) ∙ sym (cond-false _ _ _ (sym (w .is-between .ensures) ∙ w .if-is-between .left))) ∙
-        c .loop-place .inv
-    | else-word-eq-WEIGHT w ↦
-        ap (λ x. least last (values-of x) (sends (drop (i + 1) ws) s)) (w .best-is) ∙
-        ap (least last a) (sym (sends-skip ws s i (c .loop-place-test .taken) (λ k. w .if-word-eq-WEIGHT .left (e .kind ∙ k)))) ∙
-        c .loop-place .inv
+      | then-word-eq-WEIGHT·then-is-between w ↦
+          least-step ws s (w .applied-sent .result .values) i last a (values-of (c .if-word-eq-WEIGHT .best)) (c .loop-place-test .taken)
+          (sym (e .kind) ∙ w .if-word-eq-WEIGHT .taken) (w .applied-sent .ensures)
+          (ap values-of (w .best-is) ∙ sym (cond-true _ _ _ (sym (w .is-between .ensures) ∙ w .if-is-between .taken))) ∙
+          c .loop-place .inv
+      | then-word-eq-WEIGHT·else-is-between w ↦
+          least-step ws s (w .applied-sent .result .values) i last a (values-of (c .if-word-eq-WEIGHT .best)) (c .loop-place-test .taken)
+          (sym (e .kind) ∙ w .if-word-eq-WEIGHT .taken) (w .applied-sent .ensures)
+          (ap values-of (w .best-is) ∙ sym (cond-false _ _ _ (sym (w .is-between .ensures) ∙ w .if-is-between .left))) ∙
+          c .loop-place .inv
+      | else-word-eq-WEIGHT w ↦
+          ap (λ x. least last (values-of x) (sends (drop (i + 1) ws) s)) (w .best-is) ∙
+          ap (least last a) (sym (sends-skip ws s i (c .loop-place-test .taken) (λ k. w .if-word-eq-WEIGHT .left (e .kind ∙ k)))) ∙
+          c .loop-place .inv
     ]
 
 pub returns : need.returns

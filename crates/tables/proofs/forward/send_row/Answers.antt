@@ -11,12 +11,12 @@ pub loop-next-holds : need.loop-next-holds
 loop-next-holds g c = start-listed (g .K·WeightKind .ops) (sends (c .args .row .now) (c .args .frame .values)) (c .args .out .now)
 
 pub returns-then-out-count-lt-SENT-WORDS : need.returns-then-out-count-lt-SENT-WORDS
-returns-then-out-count-lt-SENT-WORDS g c =
-    ( refl
-    , listed-full (g .K·WeightKind .ops) (sends (c .args .row .now) (c .args .frame .values)) (values-of (c .loop-next .last)) (c .args .out .now) (c .loop-next .count)
+returns-then-out-count-lt-SENT-WORDS g c = (
+  refl,
+  listed-full (g .K·WeightKind .ops) (sends (c .args .row .now) (c .args .frame .values)) (values-of (c .loop-next .last)) (c .args .out .now) (c .loop-next .count)
       (c .loop-next .out) (c .in-Some .next .values) (c .loop-next .inv) (c .in-Some .ensures tt)
-      (omega (arith, c .if-out-count-lt-SENT-WORDS .taken, c .loop-next .kept .out))
-    )
+      (omega (arith, c .if-out-count-lt-SENT-WORDS .taken, c .loop-next .kept .out)),
+)
 
 pub loop-next-again : need.loop-next-again
 loop-next-again g c =

@@ -21,20 +21,20 @@ loop-place-again g c =
     let a = c .loop-place .weight in
     let e = c .split-word .ensures in
     elim (c .if-word-eq-WEIGHT .came) [
-      then-word-eq-WEIGHT·then-same w ↦
-        weight-step o ws s t (w .applied-sent .result .values) i a (c .if-word-eq-WEIGHT .weight) (c .split-word .result .value) (w .same .result) (c .loop-place-test .taken)
-        (sym (e .kind) ∙ w .if-word-eq-WEIGHT .taken) (w .applied-sent .ensures) (e .value) (same-is _ _ _ (w .same .ensures))
-        (w .weight-is ∙ w .join-weight .ensures .value ∙ sym (cond-true _ _ _ (w .if-same .taken))) ∙
-        c .loop-place .inv
-    | then-word-eq-WEIGHT·else-same w ↦
-        weight-step o ws s t (w .applied-sent .result .values) i a (c .if-word-eq-WEIGHT .weight) (c .split-word .result .value) (w .same .result) (c .loop-place-test .taken)
-        (sym (e .kind) ∙ w .if-word-eq-WEIGHT .taken) (w .applied-sent .ensures) (e .value) (same-is _ _ _ (w .same .ensures))
-        (w .weight-is ∙ sym (cond-false _ _ _ (w .if-same .left))) ∙
-        c .loop-place .inv
-    | else-word-eq-WEIGHT w ↦
-        ap (λ x. weight-in o t x (sends (drop (i + 1) ws) s)) (w .weight-is) ∙
-        ap (weight-in o t a) (sym (sends-skip ws s i (c .loop-place-test .taken) (λ k. w .if-word-eq-WEIGHT .left (e .kind ∙ k)))) ∙
-        c .loop-place .inv
+      | then-word-eq-WEIGHT·then-same w ↦
+          weight-step o ws s t (w .applied-sent .result .values) i a (c .if-word-eq-WEIGHT .weight) (c .split-word .result .value) (w .same .result) (c .loop-place-test .taken)
+          (sym (e .kind) ∙ w .if-word-eq-WEIGHT .taken) (w .applied-sent .ensures) (e .value) (same-is _ _ _ (w .same .ensures))
+          (w .weight-is ∙ w .join-weight .ensures .value ∙ sym (cond-true _ _ _ (w .if-same .taken))) ∙
+          c .loop-place .inv
+      | then-word-eq-WEIGHT·else-same w ↦
+          weight-step o ws s t (w .applied-sent .result .values) i a (c .if-word-eq-WEIGHT .weight) (c .split-word .result .value) (w .same .result) (c .loop-place-test .taken)
+          (sym (e .kind) ∙ w .if-word-eq-WEIGHT .taken) (w .applied-sent .ensures) (e .value) (same-is _ _ _ (w .same .ensures))
+          (w .weight-is ∙ sym (cond-false _ _ _ (w .if-same .left))) ∙
+          c .loop-place .inv
+      | else-word-eq-WEIGHT w ↦
+          ap (λ x. weight-in o t x (sends (drop (i + 1) ws) s)) (w .weight-is) ∙
+          ap (weight-in o t a) (sym (sends-skip ws s i (c .loop-place-test .taken) (λ k. w .if-word-eq-WEIGHT .left (e .kind ∙ k)))) ∙
+          c .loop-place .inv
     ]
 
 pub returns : need.returns

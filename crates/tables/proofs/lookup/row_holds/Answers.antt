@@ -20,11 +20,11 @@ loop-bits-again c =
     let e = c .split-word .ensures in
     sym
     (hold-more (c .args .row .now) s (c .loop-bits .bits-index) (c .loop-bits-test .taken) λ k.
-        elim (c .else-word-eq-MATCH .came) [
-          else-word-eq-MATCH·by·then-word-eq-MATCH·else-value-word w ↦
-            ap (λ f. getD s f 0) (sym (e .field)) ∙ sym (w .value .ensures) ∙ w .if-value-word .left ∙ e .value
-        | else-word-eq-MATCH·by·else-word-eq-MATCH w ↦ absurd (w .if-word-eq-MATCH .left (e .kind ∙ k))
-        ]) ∙
+    elim (c .else-word-eq-MATCH .came) [
+      | else-word-eq-MATCH·by·then-word-eq-MATCH·else-value-word w ↦
+          ap (λ f. getD s f 0) (sym (e .field)) ∙ sym (w .value .ensures) ∙ w .if-value-word .left ∙ e .value
+      | else-word-eq-MATCH·by·else-word-eq-MATCH w ↦ absurd (w .if-word-eq-MATCH .left (e .kind ∙ k))
+    ]) ∙
     c .loop-bits .inv
 
 pub returns : need.returns

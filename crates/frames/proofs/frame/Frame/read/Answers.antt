@@ -17,6 +17,6 @@ pub returns-in-rest·2 : need.returns-in-rest·2
 returns-in-rest·2 c = reads (c .args .words .now) (Err Length) (λ e. omega (arith, ltb-true, ltb-false))
 
 pub returns : need.returns
-returns c = 
+returns c =
     let e = eight (c .args .words .now) (omega (arith, ltb-true, ltb-false)) in
     reads (c .args .words .now) (c .of .result) (rw (← e) at (c .of .ensures))

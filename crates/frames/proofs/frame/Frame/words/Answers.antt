@@ -5,4 +5,4 @@ use Rattle.frames.proofs.frame.Frame.words.Needs as need
 pub returns : need.returns
 returns c =
     words-from-places (c .loop-place .words) (c .args .self .now .values) (omega arith) λ k l.
-        c .loop-place .inv .2 k (omega arith)
+    c .loop-place .inv .2 k (omega arith)

@@ -5,8 +5,8 @@ pub returns-then-field-ne0 : need.returns-then-field-ne0
 returns-then-field-ne0 c o rest r =
     let z = ended {o = o} (c .args .self .now .rows) (c .args .field) (c .args .value) rest (c .pre .0, c .pre .1 .0) r in
     elim (c .then-field-ne0 .came) [
-      need.then-field-ne0·by·then-field-ne0 w ↦ w .if-field-ne0 .taken (z .0)
-    | need.then-field-ne0·by·else-field-ne0·then-value-self w ↦ w .if-value-self .taken (z .1)
+      | need.then-field-ne0·by·then-field-ne0 w ↦ w .if-field-ne0 .taken (z .0)
+      | need.then-field-ne0·by·else-field-ne0·then-value-self w ↦ w .if-value-self .taken (z .1)
     ]
 
 pub returns : need.returns

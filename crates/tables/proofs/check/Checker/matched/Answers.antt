@@ -6,10 +6,10 @@ pub returns-then-setting-from : need.returns-then-setting-from
 returns-then-setting-from c o rest r =
     let s = c .args .setting in
     let z = matched {o = o} (c .args .self .now .rows) (c .args .from) (c .args .due) (c .args .emissions) (s .field) (s .value) rest
-            (omega (arith, s .exists), omega (arith, s .legal)) (c .pre .1) r in
+    (omega (arith, s .exists), omega (arith, s .legal)) (c .pre .1) r in
     elim (c .then-setting-from .came) [
-      need.then-setting-from·by·then-setting-from w ↦ omega (arith, z .0, w .if-setting-from .taken)
-    | need.then-setting-from·by·else-setting-from·then-setting-due-gt-FIELDS w ↦ omega (arith, z .1, w .if-setting-due-gt-FIELDS .taken)
+      | need.then-setting-from·by·then-setting-from w ↦ omega (arith, z .0, w .if-setting-from .taken)
+      | need.then-setting-from·by·else-setting-from·then-setting-due-gt-FIELDS w ↦ omega (arith, z .1, w .if-setting-due-gt-FIELDS .taken)
     ]
 
 pub returns : need.returns

@@ -6,7 +6,7 @@ pub returns-then-setting-from : need.returns-then-setting-from
 returns-then-setting-from c o laws rest r =
     let s = c .args .setting in
     let z = setting laws (c .args .self .now .rows) (c .args .from) (c .args .due) (s .field) (s .value) rest
-            (omega (arith, s .exists), omega (arith, s .legal)) r in
+    (omega (arith, s .exists), omega (arith, s .legal)) r in
     omega (arith, z .0, c .if-setting-from .taken)
 
 pub returns : need.returns

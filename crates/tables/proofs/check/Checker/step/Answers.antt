@@ -52,8 +52,8 @@ returns-then-due-eq0 g c =
 pub returns-else-due-eq0 : need.returns-else-due-eq0
 returns-else-due-eq0 g c =
     takes-none _ _ _ _ _ _ _ (ne-eqb _ _ (c .if-due-eq0 .left)) λ rest r.
-        let x = expected (g .K·WeightKind·met .lawful) (c .args .self .now .rows) (c .args .self .now .state) (c .args .bits) rest (c .pre) r in
-        grind arith
+    let x = expected (g .K·WeightKind·met .lawful) (c .args .self .now .rows) (c .args .self .now .state) (c .args .bits) rest (c .pre) r in
+    grind arith
 
 pub returns-then-due-eq0-2 : need.returns-then-due-eq0-2
 returns-then-due-eq0-2 g c =
@@ -63,8 +63,8 @@ returns-then-due-eq0-2 g c =
 pub returns-else-due-eq0-2 : need.returns-else-due-eq0-2
 returns-else-due-eq0-2 g c =
     takes-none _ _ _ _ _ _ _ (ne-eqb _ _ (c .if-due-eq0-2 .left)) λ rest r.
-        let x = expected (g .K·WeightKind·met .lawful) (c .args .self .now .rows) (c .args .self .now .state) (c .args .bits) rest (c .pre) r in
-        grind arith
+    let x = expected (g .K·WeightKind·met .lawful) (c .args .self .now .rows) (c .args .self .now .state) (c .args .bits) rest (c .pre) r in
+    grind arith
 
 pub returns-in-rest : need.returns-in-rest
 returns-in-rest g c rest r =
@@ -90,4 +90,3 @@ pub returns-in-rest·5 : need.returns-in-rest·5
 returns-in-rest·5 g c rest r =
     let x = expected (g .K·WeightKind·met .lawful) (c .args .self .now .rows) (c .args .self .now .state) (c .args .bits) rest (c .pre) r in
     grind arith
-

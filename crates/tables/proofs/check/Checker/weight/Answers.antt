@@ -9,11 +9,11 @@ pub returns-then-due-eq0 : need.returns-then-due-eq0
 returns-then-due-eq0 g c rest r =
     let z = weighed (g .K·WeightKind·met .lawful) (c .args .self .now .rows) (c .args .due) (c .args .field) (c .args .value) rest (c .pre .0, c .pre .1 .0) r in
     elim (c .then-due-eq0 .came) [
-      need.then-due-eq0·by·then-due-eq0 w ↦ omega (arith, z .0, w .if-due-eq0 .taken)
-    | need.then-due-eq0·by·else-due-eq0·then-field-ne0 w ↦ w .if-field-ne0 .taken (z .1)
-    | need.then-due-eq0·by·else-due-eq0·else-field-ne0·then-value-zero w ↦ z .3 (w .if-value-zero .taken ∙ w .zero .ensures .value)
-    | need.then-due-eq0·by·else-due-eq0·else-field-ne0·else-value-zero·then-not-is-weight w ↦
-        false≢true (w .if-not-is-weight .ensures tt .value ∙ z .2)
+      | need.then-due-eq0·by·then-due-eq0 w ↦ omega (arith, z .0, w .if-due-eq0 .taken)
+      | need.then-due-eq0·by·else-due-eq0·then-field-ne0 w ↦ w .if-field-ne0 .taken (z .1)
+      | need.then-due-eq0·by·else-due-eq0·else-field-ne0·then-value-zero w ↦ z .3 (w .if-value-zero .taken ∙ w .zero .ensures .value)
+      | need.then-due-eq0·by·else-due-eq0·else-field-ne0·else-value-zero·then-not-is-weight w ↦
+          false≢true (w .if-not-is-weight .ensures tt .value ∙ z .2)
     ]
 
 pub returns : need.returns
