@@ -69,189 +69,191 @@ fn repeated(
     Ok(text)
 }
 
+// Texts with their words.
+const ACCEPTED: [Accepted; 16] = [
+    Accepted {
+        text: b"pt=1;pt:=2",
+        words: &[0x2100_0001, 0x3100_0002, 0x7000_0000],
+    },
+    Accepted {
+        text: b"pt=3;pt:=3",
+        words: &[0x2100_0003, 0x3100_0003, 0x7000_0000],
+    },
+    Accepted {
+        text: b"pt=3+!pt=3;pt:=3",
+        words: &[
+            0x2100_0003,
+            0x2100_0003,
+            0x5000_0000,
+            0x3100_0003,
+            0x7000_0000,
+            0x6000_0000,
+        ],
+    },
+    Accepted {
+        text: b"(pt:=3)*",
+        words: &[0x3100_0003, 0x8000_0000],
+    },
+    Accepted {
+        text: b"(cost 5+cost 2);pt:=1",
+        words: &[
+            0x4000_0005,
+            0x4000_0002,
+            0x6000_0000,
+            0x3100_0001,
+            0x7000_0000,
+        ],
+    },
+    Accepted {
+        text: b"(pt=1;pt:=2;cost 4+pt=2;pt:=3;cost 4+pt=1;pt:=3;cost 9)*",
+        words: &[
+            0x2100_0001,
+            0x3100_0002,
+            0x7000_0000,
+            0x4000_0004,
+            0x7000_0000,
+            0x2100_0002,
+            0x3100_0003,
+            0x7000_0000,
+            0x4000_0004,
+            0x7000_0000,
+            0x6000_0000,
+            0x2100_0001,
+            0x3100_0003,
+            0x7000_0000,
+            0x4000_0009,
+            0x7000_0000,
+            0x6000_0000,
+            0x8000_0000,
+        ],
+    },
+    Accepted {
+        text: b"pt=1+pt=2;vlan:=6+!(pt=1+pt=2)",
+        words: &[
+            0x2100_0001,
+            0x2100_0002,
+            0x3200_0006,
+            0x7000_0000,
+            0x6000_0000,
+            0x2100_0001,
+            0x2100_0002,
+            0x6000_0000,
+            0x5000_0000,
+            0x6000_0000,
+        ],
+    },
+    Accepted {
+        text: b"pt=2;vlan:=6+!pt=2",
+        words: &[
+            0x2100_0002,
+            0x3200_0006,
+            0x7000_0000,
+            0x2100_0002,
+            0x5000_0000,
+            0x6000_0000,
+        ],
+    },
+    Accepted {
+        text: b"drop",
+        words: &[0x0000_0000],
+    },
+    Accepted {
+        text: b"sw=16777215",
+        words: &[0x20FF_FFFF],
+    },
+    Accepted {
+        text: b"(pt=1+sw=1);(vlan:=2;sw:=1)",
+        words: &[
+            0x2100_0001,
+            0x2000_0001,
+            0x6000_0000,
+            0x3200_0002,
+            0x3000_0001,
+            0x7000_0000,
+            0x7000_0000,
+        ],
+    },
+    Accepted {
+        text: b"(pt:=1+cost 4)*",
+        words: &[0x3100_0001, 0x4000_0004, 0x6000_0000, 0x8000_0000],
+    },
+    Accepted {
+        text: b"(vlan:=1+pt:=2)*",
+        words: &[0x3200_0001, 0x3100_0002, 0x6000_0000, 0x8000_0000],
+    },
+    Accepted {
+        text: b"(sw=0;sw:=1+sw=1;sw:=2+sw=2;sw:=3+sw=3;sw:=0)*",
+        words: &[
+            0x2000_0000,
+            0x3000_0001,
+            0x7000_0000,
+            0x2000_0001,
+            0x3000_0002,
+            0x7000_0000,
+            0x6000_0000,
+            0x2000_0002,
+            0x3000_0003,
+            0x7000_0000,
+            0x6000_0000,
+            0x2000_0003,
+            0x3000_0000,
+            0x7000_0000,
+            0x6000_0000,
+            0x8000_0000,
+        ],
+    },
+    Accepted {
+        text: b"dstl=1;pt:=1+dstl=2;pt:=2+dstl=3;pt:=3+dstl=4;pt:=4",
+        words: &[
+            0x2700_0001,
+            0x3100_0001,
+            0x7000_0000,
+            0x2700_0002,
+            0x3100_0002,
+            0x7000_0000,
+            0x6000_0000,
+            0x2700_0003,
+            0x3100_0003,
+            0x7000_0000,
+            0x6000_0000,
+            0x2700_0004,
+            0x3100_0004,
+            0x7000_0000,
+            0x6000_0000,
+        ],
+    },
+    Accepted {
+        text: b"sw=1;(pt=1;type:=5+!pt=1;type:=6)+!sw=1;(pt=1;type:=7+!pt=1;type:=6)",
+        words: &[
+            0x2000_0001,
+            0x2100_0001,
+            0x3300_0005,
+            0x7000_0000,
+            0x2100_0001,
+            0x5000_0000,
+            0x3300_0006,
+            0x7000_0000,
+            0x6000_0000,
+            0x7000_0000,
+            0x2000_0001,
+            0x5000_0000,
+            0x2100_0001,
+            0x3300_0007,
+            0x7000_0000,
+            0x2100_0001,
+            0x5000_0000,
+            0x3300_0006,
+            0x7000_0000,
+            0x6000_0000,
+            0x7000_0000,
+            0x6000_0000,
+        ],
+    },
+];
+
 #[test]
 fn accepted_texts_give_their_words(rt: LibcRuntime) -> Result<(), Fail> {
-    let cases = [
-        Accepted {
-            text: b"pt=1;pt:=2",
-            words: &[0x2100_0001, 0x3100_0002, 0x7000_0000],
-        },
-        Accepted {
-            text: b"pt=3;pt:=3",
-            words: &[0x2100_0003, 0x3100_0003, 0x7000_0000],
-        },
-        Accepted {
-            text: b"pt=3+!pt=3;pt:=3",
-            words: &[
-                0x2100_0003,
-                0x2100_0003,
-                0x5000_0000,
-                0x3100_0003,
-                0x7000_0000,
-                0x6000_0000,
-            ],
-        },
-        Accepted {
-            text: b"(pt:=3)*",
-            words: &[0x3100_0003, 0x8000_0000],
-        },
-        Accepted {
-            text: b"(cost 5+cost 2);pt:=1",
-            words: &[
-                0x4000_0005,
-                0x4000_0002,
-                0x6000_0000,
-                0x3100_0001,
-                0x7000_0000,
-            ],
-        },
-        Accepted {
-            text: b"(pt=1;pt:=2;cost 4+pt=2;pt:=3;cost 4+pt=1;pt:=3;cost 9)*",
-            words: &[
-                0x2100_0001,
-                0x3100_0002,
-                0x7000_0000,
-                0x4000_0004,
-                0x7000_0000,
-                0x2100_0002,
-                0x3100_0003,
-                0x7000_0000,
-                0x4000_0004,
-                0x7000_0000,
-                0x6000_0000,
-                0x2100_0001,
-                0x3100_0003,
-                0x7000_0000,
-                0x4000_0009,
-                0x7000_0000,
-                0x6000_0000,
-                0x8000_0000,
-            ],
-        },
-        Accepted {
-            text: b"pt=1+pt=2;vlan:=6+!(pt=1+pt=2)",
-            words: &[
-                0x2100_0001,
-                0x2100_0002,
-                0x3200_0006,
-                0x7000_0000,
-                0x6000_0000,
-                0x2100_0001,
-                0x2100_0002,
-                0x6000_0000,
-                0x5000_0000,
-                0x6000_0000,
-            ],
-        },
-        Accepted {
-            text: b"pt=2;vlan:=6+!pt=2",
-            words: &[
-                0x2100_0002,
-                0x3200_0006,
-                0x7000_0000,
-                0x2100_0002,
-                0x5000_0000,
-                0x6000_0000,
-            ],
-        },
-        Accepted {
-            text: b"drop",
-            words: &[0x0000_0000],
-        },
-        Accepted {
-            text: b"sw=16777215",
-            words: &[0x20FF_FFFF],
-        },
-        Accepted {
-            text: b"(pt=1+sw=1);(vlan:=2;sw:=1)",
-            words: &[
-                0x2100_0001,
-                0x2000_0001,
-                0x6000_0000,
-                0x3200_0002,
-                0x3000_0001,
-                0x7000_0000,
-                0x7000_0000,
-            ],
-        },
-        Accepted {
-            text: b"(pt:=1+cost 4)*",
-            words: &[0x3100_0001, 0x4000_0004, 0x6000_0000, 0x8000_0000],
-        },
-        Accepted {
-            text: b"(vlan:=1+pt:=2)*",
-            words: &[0x3200_0001, 0x3100_0002, 0x6000_0000, 0x8000_0000],
-        },
-        Accepted {
-            text: b"(sw=0;sw:=1+sw=1;sw:=2+sw=2;sw:=3+sw=3;sw:=0)*",
-            words: &[
-                0x2000_0000,
-                0x3000_0001,
-                0x7000_0000,
-                0x2000_0001,
-                0x3000_0002,
-                0x7000_0000,
-                0x6000_0000,
-                0x2000_0002,
-                0x3000_0003,
-                0x7000_0000,
-                0x6000_0000,
-                0x2000_0003,
-                0x3000_0000,
-                0x7000_0000,
-                0x6000_0000,
-                0x8000_0000,
-            ],
-        },
-        Accepted {
-            text: b"dstl=1;pt:=1+dstl=2;pt:=2+dstl=3;pt:=3+dstl=4;pt:=4",
-            words: &[
-                0x2700_0001,
-                0x3100_0001,
-                0x7000_0000,
-                0x2700_0002,
-                0x3100_0002,
-                0x7000_0000,
-                0x6000_0000,
-                0x2700_0003,
-                0x3100_0003,
-                0x7000_0000,
-                0x6000_0000,
-                0x2700_0004,
-                0x3100_0004,
-                0x7000_0000,
-                0x6000_0000,
-            ],
-        },
-        Accepted {
-            text: b"sw=1;(pt=1;type:=5+!pt=1;type:=6)+!sw=1;(pt=1;type:=7+!pt=1;type:=6)",
-            words: &[
-                0x2000_0001,
-                0x2100_0001,
-                0x3300_0005,
-                0x7000_0000,
-                0x2100_0001,
-                0x5000_0000,
-                0x3300_0006,
-                0x7000_0000,
-                0x6000_0000,
-                0x7000_0000,
-                0x2000_0001,
-                0x5000_0000,
-                0x2100_0001,
-                0x3300_0007,
-                0x7000_0000,
-                0x2100_0001,
-                0x5000_0000,
-                0x3300_0006,
-                0x7000_0000,
-                0x6000_0000,
-                0x7000_0000,
-                0x6000_0000,
-            ],
-        },
-    ];
-    for case in &cases {
+    for case in &ACCEPTED {
         let mut memory = vec![in rt.alloc(); 7u32; 64]?;
         match read(case.text, &mut memory) {
             Ok(n) => check(n <= 64 && &memory.as_slice()[0..n] == case.words)?,
@@ -261,141 +263,247 @@ fn accepted_texts_give_their_words(rt: LibcRuntime) -> Result<(), Fail> {
     Ok(())
 }
 
+// Texts with their refusals.
+const REFUSED: [Refused; 26] = [
+    Refused {
+        text: b"",
+        room: 64,
+        fault: Shown {
+            number: 3,
+            layer: 2,
+            place: 0,
+        },
+    },
+    Refused {
+        text: b"drop drop @",
+        room: 64,
+        fault: Shown {
+            number: 3,
+            layer: 2,
+            place: 5,
+        },
+    },
+    Refused {
+        text: b"drop 99999999",
+        room: 64,
+        fault: Shown {
+            number: 2,
+            layer: 1,
+            place: 5,
+        },
+    },
+    Refused {
+        text: b"pt=16777216",
+        room: 64,
+        fault: Shown {
+            number: 2,
+            layer: 1,
+            place: 3,
+        },
+    },
+    Refused {
+        text: b"pt=000000001",
+        room: 64,
+        fault: Shown {
+            number: 2,
+            layer: 1,
+            place: 3,
+        },
+    },
+    Refused {
+        text: b"pt: =3",
+        room: 64,
+        fault: Shown {
+            number: 1,
+            layer: 1,
+            place: 2,
+        },
+    },
+    Refused {
+        text: b"pt:",
+        room: 64,
+        fault: Shown {
+            number: 1,
+            layer: 1,
+            place: 2,
+        },
+    },
+    Refused {
+        text: b"Drop",
+        room: 64,
+        fault: Shown {
+            number: 1,
+            layer: 1,
+            place: 0,
+        },
+    },
+    Refused {
+        text: b"@",
+        room: 64,
+        fault: Shown {
+            number: 1,
+            layer: 1,
+            place: 0,
+        },
+    },
+    Refused {
+        text: b"\x0bdrop",
+        room: 64,
+        fault: Shown {
+            number: 1,
+            layer: 1,
+            place: 0,
+        },
+    },
+    Refused {
+        text: b"pt=3drop",
+        room: 64,
+        fault: Shown {
+            number: 3,
+            layer: 2,
+            place: 4,
+        },
+    },
+    Refused {
+        text: b"drop+",
+        room: 64,
+        fault: Shown {
+            number: 3,
+            layer: 2,
+            place: 5,
+        },
+    },
+    Refused {
+        text: b"drop ; ",
+        room: 64,
+        fault: Shown {
+            number: 3,
+            layer: 2,
+            place: 7,
+        },
+    },
+    Refused {
+        text: b"(drop",
+        room: 64,
+        fault: Shown {
+            number: 3,
+            layer: 2,
+            place: 5,
+        },
+    },
+    Refused {
+        text: b"pt=",
+        room: 64,
+        fault: Shown {
+            number: 3,
+            layer: 2,
+            place: 3,
+        },
+    },
+    Refused {
+        text: b"pt=vlan",
+        room: 64,
+        fault: Shown {
+            number: 3,
+            layer: 2,
+            place: 3,
+        },
+    },
+    Refused {
+        text: b"()",
+        room: 64,
+        fault: Shown {
+            number: 3,
+            layer: 2,
+            place: 1,
+        },
+    },
+    Refused {
+        text: b"=",
+        room: 64,
+        fault: Shown {
+            number: 3,
+            layer: 2,
+            place: 0,
+        },
+    },
+    Refused {
+        text: b"drop)",
+        room: 64,
+        fault: Shown {
+            number: 3,
+            layer: 2,
+            place: 4,
+        },
+    },
+    Refused {
+        text: b"cost",
+        room: 64,
+        fault: Shown {
+            number: 3,
+            layer: 2,
+            place: 4,
+        },
+    },
+    Refused {
+        text: b"pt@",
+        room: 0,
+        fault: Shown {
+            number: 5,
+            layer: 2,
+            place: 0,
+        },
+    },
+    Refused {
+        text: b"(@",
+        room: 0,
+        fault: Shown {
+            number: 1,
+            layer: 1,
+            place: 1,
+        },
+    },
+    Refused {
+        text: b"drop",
+        room: 0,
+        fault: Shown {
+            number: 5,
+            layer: 2,
+            place: 0,
+        },
+    },
+    Refused {
+        text: b"pt=1+pt=2",
+        room: 2,
+        fault: Shown {
+            number: 5,
+            layer: 2,
+            place: 5,
+        },
+    },
+    Refused {
+        text: b"pt=1+pt=2",
+        room: 1,
+        fault: Shown {
+            number: 5,
+            layer: 2,
+            place: 4,
+        },
+    },
+    Refused {
+        text: b"pt=1**",
+        room: 2,
+        fault: Shown {
+            number: 5,
+            layer: 2,
+            place: 5,
+        },
+    },
+];
+
 #[test]
 fn refused_texts_give_their_fault(rt: LibcRuntime) -> Result<(), Fail> {
-    let cases = [
-        Refused {
-            text: b"",
-            room: 64,
-            fault: shown(3, 2, 0),
-        },
-        Refused {
-            text: b"drop drop @",
-            room: 64,
-            fault: shown(3, 2, 5),
-        },
-        Refused {
-            text: b"drop 99999999",
-            room: 64,
-            fault: shown(2, 1, 5),
-        },
-        Refused {
-            text: b"pt=16777216",
-            room: 64,
-            fault: shown(2, 1, 3),
-        },
-        Refused {
-            text: b"pt=000000001",
-            room: 64,
-            fault: shown(2, 1, 3),
-        },
-        Refused {
-            text: b"pt: =3",
-            room: 64,
-            fault: shown(1, 1, 2),
-        },
-        Refused {
-            text: b"pt:",
-            room: 64,
-            fault: shown(1, 1, 2),
-        },
-        Refused {
-            text: b"Drop",
-            room: 64,
-            fault: shown(1, 1, 0),
-        },
-        Refused {
-            text: b"@",
-            room: 64,
-            fault: shown(1, 1, 0),
-        },
-        Refused {
-            text: b"\x0bdrop",
-            room: 64,
-            fault: shown(1, 1, 0),
-        },
-        Refused {
-            text: b"pt=3drop",
-            room: 64,
-            fault: shown(3, 2, 4),
-        },
-        Refused {
-            text: b"drop+",
-            room: 64,
-            fault: shown(3, 2, 5),
-        },
-        Refused {
-            text: b"drop ; ",
-            room: 64,
-            fault: shown(3, 2, 7),
-        },
-        Refused {
-            text: b"(drop",
-            room: 64,
-            fault: shown(3, 2, 5),
-        },
-        Refused {
-            text: b"pt=",
-            room: 64,
-            fault: shown(3, 2, 3),
-        },
-        Refused {
-            text: b"pt=vlan",
-            room: 64,
-            fault: shown(3, 2, 3),
-        },
-        Refused {
-            text: b"()",
-            room: 64,
-            fault: shown(3, 2, 1),
-        },
-        Refused {
-            text: b"=",
-            room: 64,
-            fault: shown(3, 2, 0),
-        },
-        Refused {
-            text: b"drop)",
-            room: 64,
-            fault: shown(3, 2, 4),
-        },
-        Refused {
-            text: b"cost",
-            room: 64,
-            fault: shown(3, 2, 4),
-        },
-        Refused {
-            text: b"pt@",
-            room: 0,
-            fault: shown(5, 2, 0),
-        },
-        Refused {
-            text: b"(@",
-            room: 0,
-            fault: shown(1, 1, 1),
-        },
-        Refused {
-            text: b"drop",
-            room: 0,
-            fault: shown(5, 2, 0),
-        },
-        Refused {
-            text: b"pt=1+pt=2",
-            room: 2,
-            fault: shown(5, 2, 5),
-        },
-        Refused {
-            text: b"pt=1+pt=2",
-            room: 1,
-            fault: shown(5, 2, 4),
-        },
-        Refused {
-            text: b"pt=1**",
-            room: 2,
-            fault: shown(5, 2, 5),
-        },
-    ];
-    for case in &cases {
+    for case in &REFUSED {
         let (fault, cleared) = refusal(rt.alloc(), case.text, case.room)?;
         check_eq(fault, Some(case.fault))?;
         check(cleared)?;

@@ -62,7 +62,10 @@ fn ends_and_heads() -> Result<(), Fail> {
 #[test]
 fn matches_look_ahead() -> Result<(), Fail> {
     check_eq(reach(&[0xA200_0000, 0xB700_0001]), Some(1))?;
-    check_eq(reach(&[0xA200_0000, 0xB600_0001, 0xB700_0001, 0xE000_0001]), None)?;
+    check_eq(
+        reach(&[0xA200_0000, 0xB600_0001, 0xB700_0001, 0xE000_0001]),
+        None,
+    )?;
     check_eq(reach(&[0xA200_0000, 0xB600_0001, 0xB600_0002]), Some(2))?;
     check_eq(reach(&[0xA000_0000, 0xB000_0001]), Some(1))
 }
@@ -80,7 +83,29 @@ fn weights_are_of_the_kind() -> Result<(), Fail> {
 
 #[test]
 fn sets_ascend() -> Result<(), Fail> {
-    check_eq(reach(&[0xA000_0001, 0xC000_0001, 0xD100_0002, 0xD100_0003, 0xE000_0001]), Some(3))?;
-    check_eq(reach(&[0xA000_0001, 0xC000_0001, 0xD100_0002, 0xD700_0003, 0xE000_0001]), None)?;
+    check_eq(
+        reach(
+            &[
+                0xA000_0001,
+                0xC000_0001,
+                0xD100_0002,
+                0xD100_0003,
+                0xE000_0001,
+            ],
+        ),
+        Some(3),
+    )?;
+    check_eq(
+        reach(
+            &[
+                0xA000_0001,
+                0xC000_0001,
+                0xD100_0002,
+                0xD700_0003,
+                0xE000_0001,
+            ],
+        ),
+        None,
+    )?;
     check_eq(reach(&[0xA000_0001, 0xC000_0001, 0xD800_0002]), Some(2))
 }

@@ -13,7 +13,16 @@ use weights::ReachWeights;
 
 // A frame at a port, on VLAN 10.
 fn frame_at(port: u32) -> [u32; 8] {
-    [0x9000_0001, 0x9100_0000 | (port & 0xff), 0x9200_000A, 0x9300_0800, 0x9400_0000, 0x9500_0000, 0x9600_0000, 0x9700_0000]
+    [
+        0x9000_0001,
+        0x9100_0000 | (port & 0xff),
+        0x9200_000A,
+        0x9300_0800,
+        0x9400_0000,
+        0x9500_0000,
+        0x9600_0000,
+        0x9700_0000,
+    ]
 }
 
 macro_rules! forwarded {
@@ -51,7 +60,16 @@ fn refusal(number: u32, place: usize) -> Result<usize, Shown> {
 
 // Frames at port 1 go to ports 3 and 2, and once more to 3, unordered; all others nowhere.
 const TABLE: [u32; 10] = [
-    0xA100_0003, 0xB100_0001, 0xC000_0001, 0xD100_0003, 0xC000_0001, 0xD100_0002, 0xC000_0001, 0xD100_0003, 0xA000_0000, 0xE000_0002,
+    0xA100_0003,
+    0xB100_0001,
+    0xC000_0001,
+    0xD100_0003,
+    0xC000_0001,
+    0xD100_0002,
+    0xC000_0001,
+    0xD100_0003,
+    0xA000_0000,
+    0xE000_0002,
 ];
 
 #[test]
@@ -108,13 +126,29 @@ fn memory_that_just_fits() -> Result<(), Fail> {
 fn wrong_frames_come_first() -> Result<(), Fail> {
     let mut memory = [];
     check_eq(reach(&TABLE, &[0x9000_0001], &mut memory), refusal(12, 8))?;
-    let frame = [0x9000_0001, 0x9100_0001, 0x9300_0001, 0x9300_0800, 0x9400_0000, 0x9500_0000, 0x9600_0000, 0x9700_0000];
+    let frame = [
+        0x9000_0001,
+        0x9100_0001,
+        0x9300_0001,
+        0x9300_0800,
+        0x9400_0000,
+        0x9500_0000,
+        0x9600_0000,
+        0x9700_0000,
+    ];
     check_eq(reach(&TABLE, &frame, &mut memory), refusal(12, 2))
 }
 
 #[test]
 fn weights_of_equal_frames_are_joined() -> Result<(), Fail> {
-    let table = [0xA000_0002, 0xC000_0005, 0xD100_0001, 0xC000_0002, 0xD100_0001, 0xE000_0001];
+    let table = [
+        0xA000_0002,
+        0xC000_0005,
+        0xD100_0001,
+        0xC000_0002,
+        0xD100_0001,
+        0xE000_0001,
+    ];
     let mut memory = [1; 9];
     check_eq(cost(&table, &frame_at(7), &mut memory), Ok(9))?;
     let [weight, ..] = memory;

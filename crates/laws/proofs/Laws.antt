@@ -32,6 +32,7 @@ diagrams-give-meanings o L p h = (d .0, record { compiles = d .1; only-one = λ 
   where
     d : (e : Diagram) × Compiles o p e
     d = compiles (named-in-either p p) L (spare-either p p (h .short) (h .short)) p (h .legal) (uses-first p p)
+
     D : Compiled o (named-in-either p p) p (d .0)
     D = of-policy L p p h (d .0) (d .1)
 
@@ -46,7 +47,8 @@ narrow-keeps o L d h f n =
     record {
       formed = formed-narrows L d (known f n) h;
       weighs = λ s t e. weigh-narrows L d (known f n) s t (formed-weighted o d h) (agrees-known f n s e);
-      no-larger = extent-narrows o d (known f n) }
+      no-larger = extent-narrows o d (known f n);
+    }
 
 pub make-keeps : MakeKeeps
 make-keeps o L f n p q y z hy hz ty tz =
@@ -54,7 +56,8 @@ make-keeps o L f n p q y z hy hz ty tz =
       formed = make-formed L f n y z p q hy hz ty tz;
       weighs-yes = λ s t e. make-weighs-yes L f n y z s t (formed-weighted o y hy) (formed-weighted o z hz) e;
       weighs-no = λ s t e. make-weighs-no L f n y z s t e;
-      no-larger = make-extent L f n y z }
+      no-larger = make-extent L f n y z;
+    }
 
 pub told : Canonical
 told o L names w d e p q i j h = canonical names w L d e p q i j h
@@ -89,6 +92,7 @@ negate-is-not o L p h k d c = (N .formed, λ s t x y. N .weighs s t (x .all-fiel
   where
     D : Compiled o (named-in-either p p) p d
     D = of-policy L p p h d c
+
     N : Negated L d (negate o d)
     N = negated L d (D .formed) (D .plain k)
 
@@ -101,13 +105,17 @@ diagrams-decide o L p q h k d e c c′ =
     record {
       same-diagram = λ s. same-weights-same N w L d e (D .formed) (E .formed) (D .named) (E .named) (s (weigh o d) (weigh o e) (D .means) (E .means));
       same-meaning = λ r a b x y s t i j. means-alike L p a (weigh o d) x (D .means) s t i j ∙ ap (λ (u : Diagram). weigh o u s t) r ∙ means-alike L q (weigh o e) b (E .means) y s t i j;
-      told-apart = λ r. canonical N w L d e (D .formed) (E .formed) (D .named) (E .named) r }
+      told-apart = λ r. canonical N w L d e (D .formed) (E .formed) (D .named) (E .named) r;
+    }
   where
     N : ℕ → List ℕ
     N = named-in-either p q
+
     w : Spare N
     w = spare-either p q (h .short) (k .short)
+
     D : Compiled o N p d
     D = compiled N L p d c (h .legal) (uses-first p q)
+
     E : Compiled o N q e
     E = compiled N L q e c′ (k .legal) (uses-second p q)

@@ -58,10 +58,12 @@ pub apply-in-range : (a : Action) (s : Frame) → ActionFormed a → InRange s �
 apply-in-range a s h k =
     record {
       all-fields = length-zip2 replaced a s (h .all-fields ∙ sym (k .all-fields)) ∙ h .all-fields;
-      legal = λ f l. subst (LegalValue f) (sym (getD-apply a s f (within (h .all-fields) l) (within (k .all-fields) l))) (go f (getD a f None) (h .legal f (within (h .all-fields) l)) (k .legal f l)) }
+      legal = λ f l. subst (LegalValue f) (sym (getD-apply a s f (within (h .all-fields) l) (within (k .all-fields) l))) (go f (getD a f None) (h .legal f (within (h .all-fields) l)) (k .legal f l));
+    }
   where
     within : {m f : ℕ} → m ≡ fields → f < fields → f < m
     within e l = omega arith
+
     go : (f : ℕ) (x : Option ℕ) → LegalSet f x → LegalValue f (getD s f 0) → LegalValue f (replaced x (getD s f 0))
     go f None p q = q
     go f (Some n) p q = p
@@ -88,9 +90,10 @@ module _ (names : ℕ → List ℕ) (enough : Spare names) where
 
   module _ {o : Ops} (L : Laws o) where
     fresh-for : (d : Diagram) → Formed o d → Named names d → Fresh fresh-frame d
-    fresh-for d h k =
-        (tests-map _ _ (λ f n z. one f n (z .0) (z .1 .0)) d (tests-both _ _ d (k .tests) (formed-tests-legal o d h)),
-         sets-map _ _ (λ f n z. one f n (z .0) (z .1 .0)) d (sets-both _ _ d (k .sets) (cells-map _ _ (λ c i. formed-sets-legal (c .0) i) d (formed-cells o d h))))
+    fresh-for d h k = (
+      tests-map _ _ (λ f n z. one f n (z .0) (z .1 .0)) d (tests-both _ _ d (k .tests) (formed-tests-legal o d h)),
+      sets-map _ _ (λ f n z. one f n (z .0) (z .1 .0)) d (sets-both _ _ d (k .sets) (cells-map _ _ (λ c i. formed-sets-legal (c .0) i) d (formed-cells o d h))),
+    )
       where
         one : (f n : ℕ) → In n (names f) → f < fields → getD fresh-frame f 0 ≡ n → ⊥
         one f n i l e = fresh-there f l .1 (subst (λ (v : ℕ). In v (names f)) (sym e) i)
@@ -102,18 +105,21 @@ module _ (names : ℕ → List ℕ) (enough : Spare names) where
           leaving = apply (T .action) (T .s);
           arriving-in-range = in-range;
           leaving-in-range = apply-in-range (T .action) (T .s) (T .action-formed) in-range;
-          differ = T .differ }
+          differ = T .differ;
+        }
       where
         T : Told o fresh-frame d e
         T = tell L (extent d + extent e) d e fresh-frame (self (extent d + extent e)) p q fresh-long (fresh-for d p i) (fresh-for e q j) h
           where
             self : (n : ℕ) → n ≤ n
             self n = omega arith
+
         in-range : InRange (T .s)
         in-range =
             record {
               all-fields = T .long;
-              legal = T .near LegalValue (λ f l. fresh-there f l .0) (tests-map _ _ (λ f n k. k .1) d (formed-tests-legal o d p)) (tests-map _ _ (λ f n k. k .1) e (formed-tests-legal o e q)) }
+              legal = T .near LegalValue (λ f l. fresh-there f l .0) (tests-map _ _ (λ f n k. k .1) d (formed-tests-legal o d p)) (tests-map _ _ (λ f n k. k .1) e (formed-tests-legal o e q));
+            }
 
     -- formed diagrams that give equal weights to all frames in range are the same
     pub same-weights-same : (d e : Diagram) → Formed o d → Formed o e → Named names d → Named names e → ((s t : Frame) → InRange s → InRange t → weigh o d s t ≡ weigh o e s t) → d ≡ e

@@ -61,14 +61,17 @@ apply-injective (x ∷ a) (y ∷ b) [] p q h k e = absurd (clash p)
     clash r = omega arith
 apply-injective (x ∷ a) (y ∷ b) (u ∷ v) p q h k e =
     ap₂ {C = Action} (λ (c : Option ℕ) (r : Action). c ∷ r) (first x y (h 0) (k 0) head-equal)
-      (apply-injective a b v (drop-suc p) (drop-suc q) (λ f. h (suc f)) (λ f. k (suc f)) tail-equal)
+    (apply-injective a b v (drop-suc p) (drop-suc q) (λ f. h (suc f)) (λ f. k (suc f)) tail-equal)
   where
     drop-suc : {m n : ℕ} → suc m ≡ suc n → m ≡ n
     drop-suc r = omega arith
+
     head-equal : replaced x u ≡ replaced y u
     head-equal = cc
+
     tail-equal : apply a v ≡ apply b v
     tail-equal = cc
+
     first : (x′ y′ : Option ℕ) → ((n : ℕ) → x′ ≡ Some n → u ≡ n → ⊥) → ((n : ℕ) → y′ ≡ Some n → u ≡ n → ⊥) → replaced x′ u ≡ replaced y′ u → x′ ≡ y′
     first None None i j r = refl
     first None (Some n) i j r = absurd (j n refl r)
@@ -93,26 +96,34 @@ module _ {o : Ops} (L : Laws o) where
         long = long;
         action-formed = among-either (λ b. ActionFormed b) (each-map (λ c k. k .action) l (p .cells)) (each-map (λ c k. k .action) m (q .cells)) (T .among);
         near = λ P i j k. i;
-        differ = λ e. T .differ (sym (weighs l (each-map (λ c k. k .action) l (p .cells)) (x .1)) ∙ e ∙ weighs m (each-map (λ c k. k .action) m (q .cells)) (y .1)) }
+        differ = λ e. T .differ (sym (weighs l (each-map (λ c k. k .action) l (p .cells)) (x .1)) ∙ e ∙ weighs m (each-map (λ c k. k .action) m (q .cells)) (y .1));
+      }
     where
       T : Telling o l m
       T = leaves-differ L l m (leaf-tidy L l p .weights) (leaf-tidy L m q .weights) (leaf-tidy L l p .no-zeros) (leaf-tidy L m q .no-zeros) (p .ascending) (q .ascending) h
+
       a : Action
       a = T .action
+
       F : Action → Type 0
       F = SetsOf (λ f n. getD v f 0 ≡ n → ⊥)
+
       among-either : (P : Action → Type 0) → Each (λ c. P (c .0)) l → Each (λ c. P (c .0)) m → Among a l ⊎ Among a m → P a
       among-either P i j (inl k) = among-each P a l i k
       among-either P i j (inr k) = among-each P a m j k
+
       a-long : length a ≡ length v
       a-long = among-either (λ b. ActionFormed b) (each-map (λ c k. k .action) l (p .cells)) (each-map (λ c k. k .action) m (q .cells)) (T .among) .all-fields ∙ sym long
+
       a-fresh : F a
       a-fresh = among-either F (x .1) (y .1) (T .among)
+
       one : (b : Action) (w : ℕ) → ActionFormed b → F b → Dec (b ≡ a) → emits o v (apply a v) b w ≡ choice (equal-actions b a) w (o .zero)
       one b w i j (yes e) =
           choice-yes (equal-lists decide (apply b v) (apply a v)) w (o .zero) (ap (λ (c : Action). apply c v) e) ∙ sym (choice-yes (equal-actions b a) w (o .zero) e)
       one b w i j (no e) =
           choice-no (equal-lists decide (apply b v) (apply a v)) w (o .zero) (λ r. e (apply-injective b a v (i .all-fields ∙ sym long) a-long j a-fresh r)) ∙ sym (choice-no (equal-actions b a) w (o .zero) e)
+
       weighs : (k : List Cell) → Each (λ c. ActionFormed (c .0)) k → Each (λ c. F (c .0)) k → weigh o (Leaf k) v (apply a v) ≡ value o a k
       weighs [] i j = refl
       weighs (c ∷ k) i j = ap₂ (o .join) (one (c .0) (c .1) (i .0) (j .0) (equal-actions (c .0) a)) (weighs k (i .1) (j .1))
@@ -150,12 +161,13 @@ module _ {o : Ops} (L : Laws o) where
           long = T .long;
           action-formed = T .action-formed;
           near = λ P i j k. T .near P i (off-tests L f n P d j) (off-tests L f n P e k);
-          differ = λ z. T .differ (off-weighs L f n d (T .s) (apply (T .action) (T .s)) away ∙ z ∙ sym (off-weighs L f n e (T .s) (apply (T .action) (T .s)) away)) }
+          differ = λ z. T .differ (off-weighs L f n d (T .s) (apply (T .action) (T .s)) away ∙ z ∙ sym (off-weighs L f n e (T .s) (apply (T .action) (T .s)) away));
+        }
       where
         away : getD (T .s) f 0 ≡ n → ⊥
         away z =
             T .near (λ g m. (g ≡ f) → (m ≡ n) → ⊥) (λ g l i j. v-off (subst (λ (k : ℕ). getD v k 0 ≡ n) i j))
-              (tests-map _ _ (λ g m k. after-unlike f n g m k) (off d f n) t) (tests-map _ _ (λ g m k. after-unlike f n g m k) (off e f n) u) f in-fields refl z
+            (tests-map _ _ (λ g m k. after-unlike f n g m k) (off d f n) t) (tests-map _ _ (λ g m k. after-unlike f n g m k) (off e f n) u) f in-fields refl z
 
     v′ : Frame
     v′ = set v f n
@@ -173,12 +185,14 @@ module _ {o : Ops} (L : Laws o) where
     v′-long = length-set v f n ∙ long
 
     at-fresh : (c : Diagram) → Fresh v c → Tests (λ g m. f < g) (at o c f n) → Sets (Unlike f n) (at o c f n) → Fresh v′ (at o c f n)
-    at-fresh c k t u =
-        (tests-map _ _ (λ g m h z. h .1 (sym (v′-elsewhere g (apart g (h .0))) ∙ z)) (at o c f n) (tests-both _ _ (at o c f n) t (at-tests L f n _ c (k .0))),
-         sets-map _ _ (λ g m h z. one g m (h .0) (h .1) z (decide g f)) (at o c f n) (sets-both _ _ (at o c f n) u (at-sets L f n _ c (k .1))))
+    at-fresh c k t u = (
+      tests-map _ _ (λ g m h z. h .1 (sym (v′-elsewhere g (apart g (h .0))) ∙ z)) (at o c f n) (tests-both _ _ (at o c f n) t (at-tests L f n _ c (k .0))),
+      sets-map _ _ (λ g m h z. one g m (h .0) (h .1) z (decide g f)) (at o c f n) (sets-both _ _ (at o c f n) u (at-sets L f n _ c (k .1))),
+    )
       where
         apart : (g : ℕ) → f < g → g ≡ f → ⊥
         apart g l i = omega arith
+
         one : (g m : ℕ) → Unlike f n g m → (getD v g 0 ≡ m → ⊥) → getD v′ g 0 ≡ m → Dec (g ≡ f) → ⊥
         one g m h k′ z (yes i) = h i (sym z ∙ ap (λ (j : ℕ). getD v′ j 0) i ∙ v′-there)
         one g m h k′ z (no i) = k′ (sym (v′-elsewhere g i) ∙ z)
@@ -191,7 +205,8 @@ module _ {o : Ops} (L : Laws o) where
           long = T .long;
           action-formed = T .action-formed;
           near = λ P i j k. T .near P (moved P i (rooted-either P f n d e r j k)) (at-tests L f n P d j) (at-tests L f n P e k);
-          differ = λ z. T .differ (at-weighs L f n d (T .s) (apply (T .action) (T .s)) (formed-weighted o d p) there ∙ z ∙ sym (at-weighs L f n e (T .s) (apply (T .action) (T .s)) (formed-weighted o e q) there)) }
+          differ = λ z. T .differ (at-weighs L f n d (T .s) (apply (T .action) (T .s)) (formed-weighted o d p) there ∙ z ∙ sym (at-weighs L f n e (T .s) (apply (T .action) (T .s)) (formed-weighted o e q) there));
+        }
       where
         moved : (P : ℕ → ℕ → Type 0) → ((g : ℕ) → g < fields → P g (getD v g 0)) → P f n → (g : ℕ) → g < fields → P g (getD v′ g 0)
         moved P i j g l = go (decide g f)
@@ -199,12 +214,14 @@ module _ {o : Ops} (L : Laws o) where
             go : Dec (g ≡ f) → P g (getD v′ g 0)
             go (yes k) = subst (λ (h : ℕ). P h (getD v′ h 0)) (sym k) (subst (P f) (sym v′-there) j)
             go (no k) = subst (P g) (sym (v′-elsewhere g k)) (i g l)
+
         apart : (g : ℕ) → f < g → g ≡ f → ⊥
         apart g l i = omega arith
+
         there : getD (T .s) f 0 ≡ n
         there =
             T .near (λ g m. g ≡ f → m ≡ n) (λ g l i. ap (λ (j : ℕ). getD v′ j 0) i ∙ v′-there)
-              (tests-map _ _ (λ g m k i. absurd (apart g k i)) (at o d f n) t) (tests-map _ _ (λ g m k i. absurd (apart g k i)) (at o e f n) u) f in-fields refl
+            (tests-map _ _ (λ g m k i. absurd (apart g k i)) (at o d f n) t) (tests-map _ _ (λ g m k i. absurd (apart g k i)) (at o e f n) u) f in-fields refl
 
   pub extent-positive : (d : Diagram) → 1 ≤ extent d
   extent-positive (Leaf l) = omega arith
@@ -220,7 +237,7 @@ module _ {o : Ops} (L : Laws o) where
       go : Heads d e → ((d′ e′ : Diagram) (v′ : Frame) → extent d′ + extent e′ ≤ k → Formed o d′ → Formed o e′ → length v′ ≡ fields → Fresh v′ d′ → Fresh v′ e′ → d′ ≢ e′ → Told o v′ d′ e′) → Told o v d e
       go (leaves l m i j r) ih =
           subst₂ (Told o v) (sym i) (sym j)
-            (tell-leaves l m v (subst (Formed o) i p) (subst (Formed o) j q) long (subst (Fresh v) i x) (subst (Fresh v) j y) (λ z. h (i ∙ ap {B = Diagram} Leaf z ∙ sym j)))
+          (tell-leaves l m v (subst (Formed o) i p) (subst (Formed o) j q) long (subst (Fresh v) i x) (subst (Fresh v) j y) (λ z. h (i ∙ ap {B = Diagram} Leaf z ∙ sym j)))
       go (split f n c i j r) ih = inner (equal-diagrams (off d f n) (off e f n))
         where
           shrinks : (extent (at o d f n) + extent (at o e f n) ≤ k) × (extent (off d f n) + extent (off e f n) ≤ k)
@@ -228,16 +245,17 @@ module _ {o : Ops} (L : Laws o) where
             where
               fits : (extent (at o d f n) + extent (at o e f n) < extent d + extent e) × (extent (off d f n) + extent (off e f n) < extent d + extent e) → (extent (at o d f n) + extent (at o e f n) ≤ k) × (extent (off d f n) + extent (off e f n) ≤ k)
               fits z = (omega arith, omega arith)
+
           inner : Dec (off d f n ≡ off e f n) → Told o v d e
           inner (no z) =
               tell-off f n d e v p q long x y r (off-after L f n d p i) (off-after L f n e q j)
-                (ih (off d f n) (off e f n) v (shrinks .1) (off-formed L f n d p) (off-formed L f n e q) long (off-fresh f n d e v p q long x y r d x) (off-fresh f n d e v p q long x y r e y) z)
+              (ih (off d f n) (off e f n) v (shrinks .1) (off-formed L f n d p) (off-formed L f n e q) long (off-fresh f n d e v p q long x y r d x) (off-fresh f n d e v p q long x y r e y) z)
           inner (yes z) =
               tell-at f n d e v p q long x y r (at-greater L f n d p i) (at-greater L f n e q j)
-                (ih (at o d f n) (at o e f n) (v′ f n d e v p q long x y r) (shrinks .0) (at-formed L f n d p) (at-formed L f n e q) (v′-long f n d e v p q long x y r)
-                  (at-fresh f n d e v p q long x y r d x (at-greater L f n d p i) (at-unlike L f n d p))
-                  (at-fresh f n d e v p q long x y r e y (at-greater L f n e q j) (at-unlike L f n e q))
-                  (at-differ f n d e p q r h z))
+              (ih (at o d f n) (at o e f n) (v′ f n d e v p q long x y r) (shrinks .0) (at-formed L f n d p) (at-formed L f n e q) (v′-long f n d e v p q long x y r)
+              (at-fresh f n d e v p q long x y r d x (at-greater L f n d p i) (at-unlike L f n d p))
+              (at-fresh f n d e v p q long x y r e y (at-greater L f n e q j) (at-unlike L f n e q))
+              (at-differ f n d e p q r h z))
 
 -- values that are not named
 
@@ -254,11 +272,13 @@ spare (suc N) xs h = go (has decide xs N) (spare N)
       where
         less : suc (length (without N xs i)) ≡ length xs → length (without N xs i) < N
         less z = omega arith
+
         found : (v : ℕ) × (v < N) × (In v (without N xs i) → ⊥) → (v : ℕ) × (v < suc N) × (In v xs → ⊥)
         found (v, l, n) = (v, wider l, λ j. neither l (without-rest N xs i v j))
           where
             wider : v < N → v < suc N
             wider z = omega arith
+
             neither : v < N → (v ≡ N) ⊎ In v (without N xs i) → ⊥
             neither z (inl e) = omega arith
             neither z (inr m) = n m

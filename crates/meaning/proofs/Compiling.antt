@@ -76,19 +76,22 @@ module _ (names : ℕ → List ℕ) {o : Ops} (L : Laws o) where
         formed = test-formed L f n (l .0) (l .1);
         named = record { tests = (u, tt, tt); sets = (keep-named, tt) };
         plain = λ h. (plain-single L, tt);
-        means = λ s t x y. test-weighs L f n s t (x .all-fields) }
+        means = λ s t x y. test-weighs L f n s t (x .all-fields);
+      }
   compiled p d (sets f n) l u =
       record {
         formed = single-formed L _ (o .one) (set-formed f n (l .1)) (L .one-weight);
         named = record { tests = tt; sets = single-cells L (λ c. SetsOf (λ g m. In m (names g)) (c .0)) _ _ (set-sets (λ g m. In m (names g)) f n u) };
         plain = λ h. absurd h;
-        means = λ s t x y. single-weighs L _ (o .one) s t (L .one-weight) ∙ ap (λ (r : Frame). only o r t (o .one)) (apply-set s f n (x .all-fields)) }
+        means = λ s t x y. single-weighs L _ (o .one) s t (L .one-weight) ∙ ap (λ (r : Frame). only o r t (o .one)) (apply-set s f n (x .all-fields));
+      }
   compiled p d (costs n) l u =
       record {
         formed = single-formed L keep-all (o .cost n) keep-formed (L .cost-weight n l);
         named = record { tests = tt; sets = single-cells L (λ c. SetsOf (λ g m. In m (names g)) (c .0)) _ _ (keep-sets (λ g m. In m (names g))) };
         plain = λ h. absurd h;
-        means = λ s t x y. single-weighs L keep-all (o .cost n) s t (L .cost-weight n l) ∙ ap (λ (r : Frame). only o r t (o .cost n)) (apply-keep s (x .all-fields)) }
+        means = λ s t x y. single-weighs L keep-all (o .cost n) s t (L .cost-weight n l) ∙ ap (λ (r : Frame). only o r t (o .cost n)) (apply-keep s (x .all-fields));
+      }
   compiled p d (nots {p = q} {d = e} c) l u = go (compiled q e c (l .1) u)
     where
       go : Compiled o names q e → Compiled o names (Not q) (negate o e)
@@ -97,10 +100,12 @@ module _ (names : ℕ → List ℕ) {o : Ops} (L : Laws o) where
             formed = N .formed;
             named = record { tests = N .tests (λ f n. In n (names f)) (E .named .tests); sets = plain-sets (negate o e) (N .plain) };
             plain = λ h. N .plain;
-            means = (weigh o e, E .means, λ s t x y. N .weighs s t (x .all-fields)) }
+            means = (weigh o e, E .means, λ s t x y. N .weighs s t (x .all-fields));
+          }
         where
           N : Negated L e (negate o e)
           N = negated L e (E .formed) (E .plain (l .0))
+
           plain-sets : (r : Diagram) → Cells (Plain o) r → Cells (λ b. SetsOf (λ f n. In n (names f)) (b .0)) r
           plain-sets r h = cells-map (Plain o) (λ b. SetsOf (λ f n. In n (names f)) (b .0)) one r h
             where
@@ -114,7 +119,8 @@ module _ (names : ℕ → List ℕ) {o : Ops} (L : Laws o) where
             formed = J .formed;
             named = record { tests = J .tests (λ f n. In n (names f)) (E .named .tests) (G .named .tests); sets = J .cells (λ b. SetsOf (λ f n. In n (names f)) (b .0)) (sets-closed o (λ f n. In n (names f))) (E .named .sets) (G .named .sets) };
             plain = λ h. J .cells (Plain o) (plain-closed L) (E .plain (h .0)) (G .plain (h .1));
-            means = (weigh o e, weigh o g, E .means, G .means, λ s t x y. J .weighs s t) }
+            means = (weigh o e, weigh o g, E .means, G .means, λ s t x y. J .weighs s t);
+          }
         where
           J : Joined o e g (join o e g)
           J = joined L e g (E .formed) (G .formed)
@@ -126,7 +132,8 @@ module _ (names : ℕ → List ℕ) {o : Ops} (L : Laws o) where
             formed = S .formed;
             named = record { tests = S .tests (λ f n. In n (names f)) (E .named .tests) (G .named .tests); sets = S .cells (λ b. SetsOf (λ f n. In n (names f)) (b .0)) (sets-closed o (λ f n. In n (names f))) (E .named .sets) (G .named .sets) };
             plain = λ h. S .cells (Plain o) (plain-closed L) (E .plain (h .0)) (G .plain (h .1));
-            means = (weigh o e, weigh o g, E .means, G .means, λ s t x y. subst (Lub o {I = (h : Frame) × InRange h} (λ h. o .times (weigh o e s (h .0)) (weigh o g (h .0) t))) (sym (S .weighs s t (x .all-fields))) (sequence-lub L e (E .formed) (weigh o g) (λ h k. weigh-weight L g h k (formed-weighted o g (G .formed))) s t x)) }
+            means = (weigh o e, weigh o g, E .means, G .means, λ s t x y. subst (Lub o {I = (h : Frame) × InRange h} (λ h. o .times (weigh o e s (h .0)) (weigh o g (h .0) t))) (sym (S .weighs s t (x .all-fields))) (sequence-lub L e (E .formed) (weigh o g) (λ h k. weigh-weight L g h k (formed-weighted o g (G .formed))) s t x));
+          }
         where
           S : Sequenced o e g (sequence o e g)
           S = sequenced L g (G .formed) e (E .formed)
@@ -138,7 +145,8 @@ module _ (names : ℕ → List ℕ) {o : Ops} (L : Laws o) where
             formed = round-good L e (E .formed) k;
             named = round-named names L e (E .formed) (E .named) k;
             plain = λ h. absurd h;
-            means = (weigh o e, E .means, star-means L e (E .formed) k same) }
+            means = (weigh o e, E .means, star-means L e (E .formed) k same);
+          }
 
   pub compiles : Spare names → (p : Policy) → Legal p → Uses names p → (d : Diagram) × Compiles o p d
   compiles w Drop l u = (_, drops)
@@ -220,12 +228,14 @@ uses-named (Test f n) = subst (In n) (sym (choice-yes (decide f f) (n ∷ []) []
 uses-named (Set f n) = subst (In n) (sym (choice-yes (decide f f) (n ∷ []) [] refl)) (inl refl)
 uses-named (Cost n) = tt
 uses-named (Not p) = uses-named p
-uses-named (Union p q) =
-    (uses-more (named-in p) (named-in (Union p q)) (λ f v i. in-left v (named-in p f) (named-in q f) i) p (uses-named p),
-     uses-more (named-in q) (named-in (Union p q)) (λ f v i. in-right v (named-in p f) (named-in q f) i) q (uses-named q))
-uses-named (Sequence p q) =
-    (uses-more (named-in p) (named-in (Sequence p q)) (λ f v i. in-left v (named-in p f) (named-in q f) i) p (uses-named p),
-     uses-more (named-in q) (named-in (Sequence p q)) (λ f v i. in-right v (named-in p f) (named-in q f) i) q (uses-named q))
+uses-named (Union p q) = (
+  uses-more (named-in p) (named-in (Union p q)) (λ f v i. in-left v (named-in p f) (named-in q f) i) p (uses-named p),
+  uses-more (named-in q) (named-in (Union p q)) (λ f v i. in-right v (named-in p f) (named-in q f) i) q (uses-named q),
+)
+uses-named (Sequence p q) = (
+  uses-more (named-in p) (named-in (Sequence p q)) (λ f v i. in-left v (named-in p f) (named-in q f) i) p (uses-named p),
+  uses-more (named-in q) (named-in (Sequence p q)) (λ f v i. in-right v (named-in p f) (named-in q f) i) q (uses-named q),
+)
 uses-named (Star p) = uses-named p
 
 -- the values that either of two policies names

@@ -106,9 +106,11 @@ module _ {o : Ops} (L : Laws o) where
       w-go : (a : Action) (w : ℕ) → Weight o w → (d : Dec (P a)) → Weight o (choice d w (o .zero))
       w-go a w h (yes p) = h
       w-go a w h (no p) = L .zero-weight
+
       j-go : (a : Action) (v w : ℕ) (d : Dec (P a)) → choice d (o .join v w) (o .zero) ≡ o .join (choice d v (o .zero)) (choice d w (o .zero))
       j-go a v w (yes p) = refl
       j-go a v w (no p) = sym zero-zero
+
       z-go : (a : Action) (d : Dec (P a)) → choice d (o .zero) (o .zero) ≡ o .zero
       z-go a (yes p) = refl
       z-go a (no p) = refl
@@ -122,7 +124,7 @@ module _ {o : Ops} (L : Laws o) where
     gather-append [] m h k = sym (L .zero-neutral _ (gather-weight m k))
     gather-append (c ∷ l) m h k =
         ap (λ (x : ℕ). o .join (g (c .0) (c .1)) x) (gather-append l m (h .1) k)
-          ∙ sym (L .join-associative _ _ _ (A .weight _ _ (h .0)) (gather-weight l (h .1)) (gather-weight m k))
+        ∙ sym (L .join-associative _ _ _ (A .weight _ _ (h .0)) (gather-weight l (h .1)) (gather-weight m k))
 
     pub gather-put : (a : Action) (w : ℕ) (l : List Cell) → Weight o w → Weights o l → gather o g (put o a w l) ≡ o .join (g a w) (gather o g l)
     gather-put a w [] p h = refl
@@ -130,15 +132,16 @@ module _ {o : Ops} (L : Laws o) where
       where
         rest : Weight o (gather o g l)
         rest = gather-weight l (h .1)
+
         go : (t : Tri (Before a (c .0)) (a ≡ c .0) (Before (c .0) a)) → gather o g (put o a w l) ≡ o .join (g a w) (gather o g l) → gather o g (three t ((a, w) ∷ c ∷ l) ((a, o .join w (c .1)) ∷ l) (c ∷ put o a w l)) ≡ o .join (g a w) (o .join (g (c .0) (c .1)) (gather o g l))
         go (below b) ih = refl
         go (level e) ih =
             ap (λ (x : ℕ). o .join x (gather o g l)) (A .joins a w (c .1) p (h .0))
-              ∙ L .join-associative _ _ _ (A .weight _ _ p) (A .weight _ _ (h .0)) rest
-              ∙ ap (λ (b : Action). o .join (g a w) (o .join (g b (c .1)) (gather o g l))) e
+            ∙ L .join-associative _ _ _ (A .weight _ _ p) (A .weight _ _ (h .0)) rest
+            ∙ ap (λ (b : Action). o .join (g a w) (o .join (g b (c .1)) (gather o g l))) e
         go (above b) ih =
             ap (λ (x : ℕ). o .join (g (c .0) (c .1)) x) ih
-              ∙ join-swap _ _ _ (A .weight _ _ (h .0)) (A .weight _ _ p) rest
+            ∙ join-swap _ _ _ (A .weight _ _ (h .0)) (A .weight _ _ p) rest
 
     pub gather-enter : (a : Action) (w : ℕ) (l : List Cell) → Weight o w → Weights o l → gather o g (enter o a w l) ≡ o .join (g a w) (gather o g l)
     gather-enter a w l p h = go (decide w (o .zero))
@@ -191,7 +194,7 @@ module _ {o : Ops} (L : Laws o) where
     gather-collect [] h = refl
     gather-collect (c ∷ l) h =
         gather-enter A (c .0) (c .1) (collect o l) (h .0) (collect-weights l (h .1))
-          ∙ ap (λ (x : ℕ). o .join (g (c .0) (c .1)) x) (gather-collect l (h .1))
+        ∙ ap (λ (x : ℕ). o .join (g (c .0) (c .1)) x) (gather-collect l (h .1))
 
 -- a stands in the leaf
 abbrev pub Among : Action → List Cell → Type 0
@@ -232,7 +235,7 @@ module _ {o : Ops} (L : Laws o) where
   value-tail : (a : Action) (c : Cell) (l : List Cell) → Weights o l → (c .0 ≡ a → ⊥) → value o a (c ∷ l) ≡ value o a l
   value-tail a c l w h =
       ap (λ (x : ℕ). o .join x (value o a l)) (choice-no (equal-actions (c .0) a) (c .1) (o .zero) h)
-        ∙ L .zero-neutral _ (gather-weight L (chosen-additive L (λ b. equal-actions b a)) l w)
+      ∙ L .zero-neutral _ (gather-weight L (chosen-additive L (λ b. equal-actions b a)) l w)
 
   pub leaves-differ : (l m : List Cell) → Weights o l → Weights o m → NoZeros o l → NoZeros o m → Ascending l → Ascending m → l ≢ m → Telling o l m
   leaves-differ [] [] wl wm zl zm al am h = absurd (h refl)
@@ -248,21 +251,26 @@ module _ {o : Ops} (L : Laws o) where
           record {
             action = c .0;
             among = inl (inl refl);
-            differ = λ r. q (sym (value-head c l (wl .0) (al .0)) ∙ r ∙ ap (λ (a : Action). value o a (e ∷ m)) p ∙ value-head e m (wm .0) (am .0)) }
+            differ = λ r. q (sym (value-head c l (wl .0) (al .0)) ∙ r ∙ ap (λ (a : Action). value o a (e ∷ m)) p ∙ value-head e m (wm .0) (am .0));
+          }
       same-action p ih (yes q) =
           record {
             action = T .action;
             among = later (T .among);
-            differ = λ r. T .differ (sym (value-tail (T .action) c l (wl .1) off) ∙ r ∙ value-tail (T .action) e m (wm .1) (λ s. off (p ∙ s))) }
+            differ = λ r. T .differ (sym (value-tail (T .action) c l (wl .1) off) ∙ r ∙ value-tail (T .action) e m (wm .1) (λ s. off (p ∙ s)));
+          }
         where
           T : Telling o l m
           T = ih (λ r. h (λ i. (p i, q i) ∷ r i))
+
           later : Among (T .action) l ⊎ Among (T .action) m → Among (T .action) (c ∷ l) ⊎ Among (T .action) (e ∷ m)
           later (inl i) = inl (inr i)
           later (inr i) = inr (inr i)
+
           where-it-stands : Among (T .action) l ⊎ Among (T .action) m → Before (c .0) (T .action)
           where-it-stands (inl i) = among-each (Before (c .0)) (T .action) l (al .0) i
           where-it-stands (inr i) = among-each (Before (c .0)) (T .action) m (subst (λ (a : Action). Each (λ (x : Cell). Before a (x .0)) m) (sym p) (am .0)) i
+
           off : c .0 ≡ T .action → ⊥
           off = before-differ (c .0) (T .action) (where-it-stands (T .among))
 
@@ -271,10 +279,12 @@ module _ {o : Ops} (L : Laws o) where
           record {
             action = c .0;
             among = inl (inl refl);
-            differ = λ r. zl .0 (sym (value-head c l (wl .0) (al .0)) ∙ r ∙ value-absent (c .0) (e ∷ m) (b, each-map (λ x q. before-trans (c .0) (e .0) (x .0) b q) m (am .0))) }
+            differ = λ r. zl .0 (sym (value-head c l (wl .0) (al .0)) ∙ r ∙ value-absent (c .0) (e ∷ m) (b, each-map (λ x q. before-trans (c .0) (e .0) (x .0) b q) m (am .0)));
+          }
       go (level p) ih = same-action p ih (decide (c .1) (e .1))
       go (above b) ih =
           record {
             action = e .0;
             among = inr (inl refl);
-            differ = λ r. zm .0 (sym (value-head e m (wm .0) (am .0)) ∙ sym r ∙ value-absent (e .0) (c ∷ l) (b, each-map (λ x q. before-trans (e .0) (c .0) (x .0) b q) l (al .0))) }
+            differ = λ r. zm .0 (sym (value-head e m (wm .0) (am .0)) ∙ sym r ∙ value-absent (e .0) (c ∷ l) (b, each-map (λ x q. before-trans (e .0) (c .0) (x .0) b q) l (al .0)));
+          }

@@ -74,8 +74,10 @@ tests-fields o f n (Node g m y z) h r =
       where
         same : g ≡ f → f ≤ g
         same e = omega arith
+
     wider : {k : ℕ} → f ≤ g → g < k → f ≤ k
     wider a b = omega arith
+
     widest : {k : ℕ} → f ≤ g → g ≤ k → f ≤ k
     widest a b = omega arith
 
@@ -92,10 +94,12 @@ module _ {o : Ops} (L : Laws o) where
         tests = λ P t u. tt;
         cells = λ Q K t u. cells-collect L K (l ++ m) (each-append Q l m t u);
         formed = collect-formed L (l ++ m) (each-append (λ c. ActionFormed (c .0) × Weight o (c .1)) l m (each-map (λ c k. (k .action, k .weight)) l (p .cells)) (each-map (λ c k. (k .action, k .weight)) m (q .cells)));
-        weighs = λ s t. gather-collect L (emits-additive L s t) (l ++ m) (each-append (λ c. Weight o (c .1)) l m wl wm) ∙ gather-append L (emits-additive L s t) l m wl wm }
+        weighs = λ s t. gather-collect L (emits-additive L s t) (l ++ m) (each-append (λ c. Weight o (c .1)) l m wl wm) ∙ gather-append L (emits-additive L s t) l m wl wm;
+      }
     where
       wl : Weights o l
       wl = each-map (λ c k. k .weight) l (p .cells)
+
       wm : Weights o m
       wm = each-map (λ c k. k .weight) m (q .cells)
 
@@ -105,18 +109,20 @@ module _ {o : Ops} (L : Laws o) where
         tests = λ P t u. make-tests L P f n a b (rooted-either P f n d e r t u) (A .tests P (at-tests L f n P d t) (at-tests L f n P e u)) (B .tests P (off-tests L f n P d t) (off-tests L f n P e u));
         cells = λ Q K t u. cells-make L K f n a b (A .cells Q K (cells-at L K f n d t) (cells-at L K f n e u)) (B .cells Q K (off-cells L f n Q d t) (off-cells L f n Q e u));
         formed =
-          make-formed L f n a b (legal .0) (legal .1) (A .formed) (B .formed)
+            make-formed L f n a b (legal .0) (legal .1) (A .formed) (B .formed)
             (weaker f a (A .tests (λ g m. f < g) (at-greater L f n d p i) (at-greater L f n e q j)))
             (B .tests (After f n) (off-after L f n d p i) (off-after L f n e q j));
-        weighs = λ s t. go s t (decide (getD s f 0) n) }
+        weighs = λ s t. go s t (decide (getD s f 0) n);
+      }
     where
       legal : (f < fields) × LegalValue f n
       legal = rooted-either (λ g m. (g < fields) × LegalValue g m) f n d e r (formed-tests-legal o d p) (formed-tests-legal o e q)
+
       go : (s t : Frame) → Dec (getD s f 0 ≡ n) → weigh o (make o f n a b) s t ≡ o .join (weigh o d s t) (weigh o e s t)
       go s t (yes h) =
           make-weighs-yes L f n a b s t (formed-weighted o a (A .formed)) (formed-weighted o b (B .formed)) h
-            ∙ A .weighs s t
-            ∙ ap₂ (o .join) (at-weighs L f n d s t (formed-weighted o d p) h) (at-weighs L f n e s t (formed-weighted o e q) h)
+          ∙ A .weighs s t
+          ∙ ap₂ (o .join) (at-weighs L f n d s t (formed-weighted o d p) h) (at-weighs L f n e s t (formed-weighted o e q) h)
       go s t (no h) = make-weighs-no L f n a b s t h ∙ B .weighs s t ∙ ap₂ (o .join) (off-weighs L f n d s t h) (off-weighs L f n e s t h)
 
   pub joined-by : (k : ℕ) (d e : Diagram) → extent d + extent e ≤ k → Formed o d → Formed o e → Joined o d e (join-by o k d e)
@@ -130,12 +136,12 @@ module _ {o : Ops} (L : Laws o) where
       go : Heads d e → ((d′ e′ : Diagram) → extent d′ + extent e′ ≤ k → Formed o d′ → Formed o e′ → Joined o d′ e′ (join-by o k d′ e′)) → Joined o d e (join-at o (join-by o k) (first-root (root d) (root e)) d e)
       go (leaves l m i j c) ih =
           subst (λ (x : Option Tested). Joined o d e (join-at o (join-by o k) x d e)) (sym c)
-            (subst₂ (λ (x y : Diagram). Joined o x y (join-at o (join-by o k) None x y)) (sym i) (sym j) (joined-leaves l m (subst (Formed o) i p) (subst (Formed o) j q)))
+          (subst₂ (λ (x y : Diagram). Joined o x y (join-at o (join-by o k) None x y)) (sym i) (sym j) (joined-leaves l m (subst (Formed o) i p) (subst (Formed o) j q)))
       go (split f n c i j r) ih =
           subst (λ (x : Option Tested). Joined o d e (join-at o (join-by o k) x d e)) (sym c)
-            (joined-split f n d e (join-by o k (at o d f n) (at o e f n)) (join-by o k (off d f n) (off e f n)) p q i j r
-              (ih (at o d f n) (at o e f n) (shrinks .0) (at-formed L f n d p) (at-formed L f n e q))
-              (ih (off d f n) (off e f n) (shrinks .1) (off-formed L f n d p) (off-formed L f n e q)))
+          (joined-split f n d e (join-by o k (at o d f n) (at o e f n)) (join-by o k (off d f n) (off e f n)) p q i j r
+          (ih (at o d f n) (at o e f n) (shrinks .0) (at-formed L f n d p) (at-formed L f n e q))
+          (ih (off d f n) (off e f n) (shrinks .1) (off-formed L f n d p) (off-formed L f n e q)))
         where
           shrinks : (extent (at o d f n) + extent (at o e f n) ≤ k) × (extent (off d f n) + extent (off e f n) ≤ k)
           shrinks = fits (split-shrinks L f n d e r)
@@ -167,8 +173,10 @@ earliest f n (Node g m y z) = go (order-tests f n g m) refl
   where
     T : Type 0
     T = Tri (After f n g m) ((f ≡ g) × (n ≡ m)) (After g m f n)
+
     at-order : (t : T) → order-tests f n g m ≡ t → earlier (f, n) (Some (g, m)) ≡ three t (f, n) (f, n) (g, m)
     at-order t e = ap (λ (x : T). three x (f, n) (f, n) (g, m)) e
+
     go : (t : T) → order-tests f n g m ≡ t → Earlier f n (Node g m y z)
     go (below a) e = stays (at-order (below a) e) (inl a)
     go (level a) e = stays (at-order (level a) e) (inr (sym (a .0), sym (a .1)))
@@ -183,12 +191,15 @@ least f n y z = go (earliest f n y)
   where
     second : (h k : ℕ) → earlier (f, n) (root y) ≡ (h, k) → earlier (earlier (f, n) (root y)) (root z) ≡ earlier (h, k) (root z)
     second h k e = ap (λ (t : Tested). earlier t (root z)) e
+
     go-stay : earlier (f, n) (root y) ≡ (f, n) → From f n y → Earlier f n z → Least f n y z
     go-stay e r (stays e′ r′) = own (second f n e ∙ e′) r r′
     go-stay e r (moves g m e′ a r′ b) = other g m (second f n e ∙ e′) a (from-earlier g m f n y a r) r′ (inr b)
+
     go-move : (g m : ℕ) → earlier (f, n) (root y) ≡ (g, m) → After g m f n → From g m y → Rooted g m y → Earlier g m z → Least f n y z
     go-move g m e a r b (stays e′ r′) = other g m (second g m e ∙ e′) a r r′ (inl b)
     go-move g m e a r b (moves h k e′ a′ r′ b′) = other h k (second g m e ∙ e′) (after-trans h k g m f n a′ a) (from-earlier h k g m y a′ r) r′ (inr b′)
+
     go : Earlier f n y → Least f n y z
     go (stays e r) = go-stay e r (earliest f n z)
     go (moves g m e a r b) = go-move g m e a r b (earliest g m z)
@@ -209,7 +220,8 @@ module _ {o : Ops} (L : Laws o) (f n : ℕ) (f-exists : f < fields) (n-legal : L
         cells = λ Q K t u. cells-make L K f n y (off z f n) t (off-cells L f n Q z u);
         formed = make-formed L f n y (off z f n) f-exists n-legal p (off-formed L f n z q) (tests-fields o f n y p i) (off-after L f n z q j);
         weighs-yes = λ s t h. make-weighs-yes L f n y (off z f n) s t (formed-weighted o y p) (off-cells L f n _ z (formed-weighted o z q)) h;
-        weighs-no = λ s t h. make-weighs-no L f n y (off z f n) s t h ∙ off-weighs L f n z s t h }
+        weighs-no = λ s t h. make-weighs-no L f n y (off z f n) s t h ∙ off-weighs L f n z s t h;
+      }
 
   module _ (g m : ℕ) (y z c : Diagram) (p : Formed o y) (q : Formed o z) (a : After g m f n) (i : From g m y) (j : From g m z) (r : Rooted g m y ⊎ Rooted g m z) (C : Chosen o f n (off y g m) (off z g m) c) where
     legal : (g < fields) × LegalValue g m
@@ -226,13 +238,16 @@ module _ {o : Ops} (L : Laws o) (f n : ℕ) (f-exists : f < fields) (n-legal : L
           cells = λ Q K t u. cells-make L K g m (at o z g m) c (cells-at L K g m z u) (C .cells Q K (off-cells L g m Q y t) (off-cells L g m Q z u));
           formed = make-formed L g m (at o z g m) c (legal .0) (legal .1) (at-formed L g m z q) (C .formed) (weaker g (at o z g m) (at-greater L g m z q j)) after-c;
           weighs-yes = λ s t h. yes-go s t h (decide (getD s g 0) m);
-          weighs-no = λ s t h. no-go s t h (decide (getD s g 0) m) }
+          weighs-no = λ s t h. no-go s t h (decide (getD s g 0) m);
+        }
       where
         clash : (s : Frame) → getD s f 0 ≡ n → getD s g 0 ≡ m → ⊥
         clash s h k = after-unlike g m f n a (sym e) (sym h ∙ ap (λ (x : ℕ). getD s x 0) (sym e) ∙ k)
+
         yes-go : (s t : Frame) → getD s f 0 ≡ n → Dec (getD s g 0 ≡ m) → weigh o (make o g m (at o z g m) c) s t ≡ weigh o y s t
         yes-go s t h (yes k) = absurd (clash s h k)
         yes-go s t h (no k) = make-weighs-no L g m (at o z g m) c s t k ∙ C .weighs-yes s t h ∙ off-weighs L g m y s t k
+
         no-go : (s t : Frame) → (getD s f 0 ≡ n → ⊥) → Dec (getD s g 0 ≡ m) → weigh o (make o g m (at o z g m) c) s t ≡ weigh o z s t
         no-go s t h (yes k) = make-weighs-yes L g m (at o z g m) c s t (formed-weighted o _ (at-formed L g m z q)) (formed-weighted o c (C .formed)) k ∙ at-weighs L g m z s t (formed-weighted o z q) k
         no-go s t h (no k) = make-weighs-no L g m (at o z g m) c s t k ∙ C .weighs-no s t h ∙ off-weighs L g m z s t k
@@ -243,18 +258,22 @@ module _ {o : Ops} (L : Laws o) (f n : ℕ) (f-exists : f < fields) (n-legal : L
           tests = λ P h t u. make-tests L P g m b c (rooted-either P g m y z r t u) (B .tests P h (at-tests L g m P y t) (at-tests L g m P z u)) (C .tests P h (off-tests L g m P y t) (off-tests L g m P z u));
           cells = λ Q K t u. cells-make L K g m b c (B .cells Q K (cells-at L K g m y t) (cells-at L K g m z u)) (C .cells Q K (off-cells L g m Q y t) (off-cells L g m Q z u));
           formed =
-            make-formed L g m b c (legal .0) (legal .1) (B .formed) (C .formed)
+              make-formed L g m b c (legal .0) (legal .1) (B .formed) (C .formed)
               (B .tests (λ h k. g ≤ h) (after-field g m f n a) (weaker g (at o y g m) (at-greater L g m y p i)) (weaker g (at o z g m) (at-greater L g m z q j))) after-c;
           weighs-yes = λ s t h. yes-go s t h (decide (getD s g 0) m);
-          weighs-no = λ s t h. no-go s t h (decide (getD s g 0) m) }
+          weighs-no = λ s t h. no-go s t h (decide (getD s g 0) m);
+        }
       where
         wb : Weighted o b
         wb = formed-weighted o b (B .formed)
+
         wc : Weighted o c
         wc = formed-weighted o c (C .formed)
+
         yes-go : (s t : Frame) → getD s f 0 ≡ n → Dec (getD s g 0 ≡ m) → weigh o (make o g m b c) s t ≡ weigh o y s t
         yes-go s t h (yes k) = make-weighs-yes L g m b c s t wb wc k ∙ B .weighs-yes s t h ∙ at-weighs L g m y s t (formed-weighted o y p) k
         yes-go s t h (no k) = make-weighs-no L g m b c s t k ∙ C .weighs-yes s t h ∙ off-weighs L g m y s t k
+
         no-go : (s t : Frame) → (getD s f 0 ≡ n → ⊥) → Dec (getD s g 0 ≡ m) → weigh o (make o g m b c) s t ≡ weigh o z s t
         no-go s t h (yes k) = make-weighs-yes L g m b c s t wb wc k ∙ B .weighs-no s t h ∙ at-weighs L g m z s t (formed-weighted o z q) k
         no-go s t h (no k) = make-weighs-no L g m b c s t k ∙ C .weighs-no s t h ∙ off-weighs L g m z s t k
@@ -269,23 +288,27 @@ module _ {o : Ops} (L : Laws o) (f n : ℕ) (f-exists : f < fields) (n-legal : L
     where
       R : Diagram → Diagram → Diagram
       R = choose-by o k f n
+
       go : Least f n y z → ((y′ z′ : Diagram) → extent y′ + extent z′ ≤ k → Formed o y′ → Formed o z′ → Chosen o f n y′ z′ (choose-by o k f n y′ z′)) → Chosen o f n y z (choose-at o R (earlier (earlier (f, n) (root y)) (root z)) f n y z)
       go (own e i j) ih =
           subst (λ (u : Tested). Chosen o f n y z (choose-at o R u f n y z)) (sym e)
-            (subst (Chosen o f n y z) (sym (choice-yes (equal-tests f n f n) _ _ (refl, refl))) (chosen-own y z p q i j))
+          (subst (Chosen o f n y z) (sym (choice-yes (equal-tests f n f n) _ _ (refl, refl))) (chosen-own y z p q i j))
       go (other g m e a i j r) ih =
           subst (λ (u : Tested). Chosen o f n y z (choose-at o R u f n y z)) (sym e)
-            (subst (Chosen o f n y z) (sym (choice-no (equal-tests g m f n) _ _ (λ h. after-unlike g m f n a (sym (h .0)) (sym (h .1))))) (inner (decide g f)))
+          (subst (Chosen o f n y z) (sym (choice-no (equal-tests g m f n) _ _ (λ h. after-unlike g m f n a (sym (h .0)) (sym (h .1))))) (inner (decide g f)))
         where
           shrinks : (extent (at o y g m) + extent (at o z g m) ≤ k) × (extent (off y g m) + extent (off z g m) ≤ k)
           shrinks = fits (split-shrinks L g m y z r)
             where
               fits : (extent (at o y g m) + extent (at o z g m) < extent y + extent z) × (extent (off y g m) + extent (off z g m) < extent y + extent z) → (extent (at o y g m) + extent (at o z g m) ≤ k) × (extent (off y g m) + extent (off z g m) ≤ k)
               fits h = (omega arith, omega arith)
+
           C : Chosen o f n (off y g m) (off z g m) (R (off y g m) (off z g m))
           C = ih (off y g m) (off z g m) (shrinks .1) (off-formed L g m y p) (off-formed L g m z q)
+
           B : Chosen o f n (at o y g m) (at o z g m) (R (at o y g m) (at o z g m))
           B = ih (at o y g m) (at o z g m) (shrinks .0) (at-formed L g m y p) (at-formed L g m z q)
+
           inner : (d : Dec (g ≡ f)) → Chosen o f n y z (make o g m (choice d (at o z g m) (R (at o y g m) (at o z g m))) (R (off y g m) (off z g m)))
           inner (yes h) = chosen-same-field g m y z (R (off y g m) (off z g m)) p q a i j r C h
           inner (no h) = chosen-other-field g m y z (R (off y g m) (off z g m)) p q a i j r C (R (at o y g m) (at o z g m)) B

@@ -38,13 +38,14 @@ module _ {o : Ops} (L : Laws o) where
       record {
         weights = collect-weights L l h;
         no-zeros = each-map (λ c k. k .1) (collect o l) nonzero;
-        ascends = collect-ascending L l }
+        ascends = collect-ascending L l;
+      }
     where
       nonzero : Each (λ c. Weight o (c .1) × (c .1 ≢ o .zero)) (collect o l)
       nonzero =
           collect-each L (λ c. Weight o (c .1) × (c .1 ≢ o .zero))
-            (λ a v w p q. (L .join-weight v w (p .0) (q .0), join-not-zero L v w (p .0) (q .0) (p .1)))
-            (λ c. Weight o (c .1)) (λ c k e. (k, e)) l h
+          (λ a v w p q. (L .join-weight v w (p .0) (q .0), join-not-zero L v w (p .0) (q .0) (p .1)))
+          (λ c. Weight o (c .1)) (λ c k e. (k, e)) l h
 
   pub leaf-tidy : (l : List Cell) → LeafFormed o l → Tidy o l
   leaf-tidy l h = record { weights = each-map (λ c k. k .weight) l (h .cells); no-zeros = each-map (λ c k. k .not-zero) l (h .cells); ascends = h .ascending }
@@ -59,17 +60,19 @@ module _ {o : Ops} (L : Laws o) where
   collect-narrow-narrow : (p q : Facts) (l : List Cell) → Consistent p q → Weights o l → collect o (map (narrow-cell q) (collect o (map (narrow-cell p) l))) ≡ collect o (map (narrow-cell (also p q)) l)
   collect-narrow-narrow p q l k h =
       leaves-equal _ _ (collect-tidy _ twice) (collect-tidy _ (narrow-cells-weights L (also p q) l h)) (λ a.
-        gather-collect L (value-additive a) _ twice
-          ∙ gather-map o (G a) (λ b. G a (narrow-action q b)) (narrow-cell q) (λ c. refl) (collect o (map (narrow-cell p) l))
-          ∙ gather-collect L (chosen-additive L (λ b. equal-actions (narrow-action q b) a)) _ once
-          ∙ gather-map o (λ b. G a (narrow-action q b)) (λ b. G a (narrow-action (also p q) b)) (narrow-cell p) (λ c. ap (λ (b : Action). G a b (c .1)) (narrow-narrow-action p q (c .0) k)) l
-          ∙ sym (gather-map o (G a) (λ b. G a (narrow-action (also p q) b)) (narrow-cell (also p q)) (λ c. refl) l)
-          ∙ sym (gather-collect L (value-additive a) _ (narrow-cells-weights L (also p q) l h)))
+      gather-collect L (value-additive a) _ twice
+      ∙ gather-map o (G a) (λ b. G a (narrow-action q b)) (narrow-cell q) (λ c. refl) (collect o (map (narrow-cell p) l))
+      ∙ gather-collect L (chosen-additive L (λ b. equal-actions (narrow-action q b) a)) _ once
+      ∙ gather-map o (λ b. G a (narrow-action q b)) (λ b. G a (narrow-action (also p q) b)) (narrow-cell p) (λ c. ap (λ (b : Action). G a b (c .1)) (narrow-narrow-action p q (c .0) k)) l
+      ∙ sym (gather-map o (G a) (λ b. G a (narrow-action (also p q) b)) (narrow-cell (also p q)) (λ c. refl) l)
+      ∙ sym (gather-collect L (value-additive a) _ (narrow-cells-weights L (also p q) l h)))
     where
       G : Action → Action → ℕ → ℕ
       G a b w = choice (equal-actions b a) w (o .zero)
+
       once : Weights o (map (narrow-cell p) l)
       once = narrow-cells-weights L p l h
+
       twice : Weights o (map (narrow-cell q) (collect o (map (narrow-cell p) l)))
       twice = narrow-cells-weights L q _ (collect-weights L _ once)
 
@@ -80,19 +83,23 @@ also-known-left p q f n e h = fun-ext (λ g. go g (p g) (known f n g) (q g) refl
   where
     there : (g : ℕ) → g ≡ f → (q g ≡ None) ⊎ (q g ≡ Some n)
     there g r = subst (λ (k : ℕ). (q k ≡ None) ⊎ (q k ≡ Some n)) (sym r) h
+
     at-f : (x : Option ℕ) → (x ≡ None) ⊎ (x ≡ Some n) → Some n ≡ or-else x (Some n)
     at-f x (inl r) = ap (λ (u : Option ℕ). or-else u (Some n)) (sym r)
     at-f x (inr r) = ap (λ (u : Option ℕ). or-else u (Some n)) (sym r)
+
     elsewhere : (x y : Option ℕ) → or-else (or-else x None) y ≡ or-else (or-else x y) None
     elsewhere None None = refl
     elsewhere None (Some m) = refl
     elsewhere (Some m) y = refl
+
     go : (g : ℕ) (x y z : Option ℕ) → p g ≡ x → known f n g ≡ y → q g ≡ z → Dec (g ≡ f) → or-else (or-else (p g) (known f n g)) (q g) ≡ or-else (or-else (p g) (q g)) (known f n g)
     go g x y z ex ey ez (yes r) =
         ap₂ (λ (u v : Option ℕ). or-else (or-else u v) (q g)) pg kg ∙ at-f (q g) (there g r) ∙ sym (ap₂ (λ (u v : Option ℕ). or-else (or-else u (q g)) v) pg kg)
       where
         pg : p g ≡ None
         pg = ap p r ∙ e
+
         kg : known f n g ≡ Some n
         kg = choice-yes (decide g f) (Some n) None r
     go g x y z ex ey ez (no r) =
@@ -111,6 +118,7 @@ also-known-again p f n e = fun-ext (λ g. go g (decide g f))
     none-right : (x : Option ℕ) → or-else x None ≡ x
     none-right None = refl
     none-right (Some m) = refl
+
     go : (g : ℕ) → Dec (g ≡ f) → or-else (p g) (known f n g) ≡ p g
     go g (yes r) = ap (λ (u : Option ℕ). or-else u (known f n g)) (ap p r ∙ e) ∙ sym (ap p r ∙ e)
     go g (no r) = ap (or-else (p g)) (known-else f n g r) ∙ none-right (p g)
@@ -173,11 +181,14 @@ module _ {o : Ops} (L : Laws o) where
       where
         K : Facts
         K = known f n
+
         settled : (x : Option ℕ) → q f ≡ x → p f ≡ None → also p q f ≡ x
         settled x e e′ = also-second p q f e′ ∙ e
+
         -- the yes side, twice narrowed with the test known
         yes-twice : p f ≡ None → (q f ≡ None) ⊎ (q f ≡ Some n) → narrows o (narrows o y (also p K)) q ≡ narrows o y (also (also p q) K)
         yes-twice e h = iy (also p K) q (consistent-also p q K k (consistent-known f n q h)) ∙ ap (narrows o y) (also-known-left p q f n e h)
+
         no-twice : p f ≡ None → (q f ≡ None) ⊎ (q f ≡ Some n) → narrows o (narrows o z (also p K)) q ≡ narrows o z (also (also p q) K)
         no-twice e h = iz (also p K) q (consistent-also p q K k (consistent-known f n q h)) ∙ ap (narrows o z) (also-known-left p q f n e h)
 
@@ -192,22 +203,28 @@ module _ {o : Ops} (L : Laws o) where
               where
                 qn : q f ≡ Some n
                 qn = eq ∙ ap {B = Option ℕ} Some r
+
                 pq-f : also p q f ≡ Some n
                 pq-f = settled (Some n) qn e
 
         Y : Diagram
         Y = narrows o y (also p K)
+
         Z : Diagram
         Z = narrows o z p
+
         zz : narrows o Z q ≡ narrows o z (also p q)
         zz = iz p q k
+
         first : p f ≡ None → q f ≡ None → narrows o Y (also q K) ≡ narrows o y (also (also p q) K)
         first e eq = iy (also p K) (also q K) agree ∙ ap (narrows o y) (also-assoc (also p K) q K ∙ ap (λ (u : Facts). also u K) (also-known-left p q f n e (inl eq)) ∙ also-known-again (also (also p q) K) f n (also-second (also p q) K f (settled None eq e) ∙ known-there f n))
           where
             agree : Consistent (also p K) (also q K)
             agree = consistent-flip (also q K) (also p K) (consistent-also q (also p K) K (consistent-flip (also p K) q (consistent-also p q K k (consistent-known f n q (inl eq)))) (consistent-known f n (also p K) (inr (also-second p K f e ∙ known-there f n))))
+
         second : p f ≡ None → narrows o Z (also q K) ≡ narrows o z (also (also p q) K)
         second e = iz p (also q K) (consistent-flip (also q K) p (consistent-also q p K (consistent-flip p q k) (consistent-known f n p (inl e)))) ∙ ap (narrows o z) (also-assoc p q K)
+
         when-kept : p f ≡ None → Narrowing o q f n Y Z → narrows o (Node f n Y Z) q ≡ narrows o (Node f n y z) (also p q)
         when-kept e (yes-side eq r) =
             r ∙ yes-twice e (inr eq) ∙ ap (narrows o y) (also-known-again (also p q) f n pq-f) ∙ sym (to-yes (also p q) pq-f)
@@ -220,6 +237,7 @@ module _ {o : Ops} (L : Laws o) where
           where
             none-here : also p q f ≡ None
             none-here = settled None eq e
+
             both : Narrowing o (also p q) f n y z → Node f n (narrows o Y (also q K)) (narrows o Z q) ≡ narrows o (Node f n y z) (also p q)
             both (yes-side e′ s) = none-some n (sym none-here ∙ e′)
             both (no-side m e′ h′ s) = none-some m (sym none-here ∙ e′)
@@ -241,7 +259,8 @@ module _ {o : Ops} (L : Laws o) where
   cell-narrow p c h =
       record {
         all-fields = length-narrow-action p (c .0) ∙ h .all-fields;
-        legal = λ f l. subst (LegalSet f) (sym (getD-narrow-action p (c .0) f)) (go f (p f) (getD (c .0) f None) (h .legal f (subst (λ (k : ℕ). f < k) (length-narrow-action p (c .0)) l))) }
+        legal = λ f l. subst (LegalSet f) (sym (getD-narrow-action p (c .0) f)) (go f (p f) (getD (c .0) f None) (h .legal f (subst (λ (k : ℕ). f < k) (length-narrow-action p (c .0)) l)));
+      }
     where
       go : (f : ℕ) (x y : Option ℕ) → LegalSet f y → LegalSet f (forget x y)
       go f None y k = k
@@ -253,12 +272,13 @@ module _ {o : Ops} (L : Laws o) where
   collect-formed l h =
       record {
         cells = collect-each L (CellFormed o) (λ a v w p q. record { action = p .action; weight = L .join-weight v w (p .weight) (q .weight); not-zero = join-not-zero L v w (p .weight) (q .weight) (p .not-zero) }) (λ c. ActionFormed (c .0) × Weight o (c .1)) (λ c k e. record { action = k .0; weight = k .1; not-zero = e }) l h;
-        ascending = collect-ascending L l }
+        ascending = collect-ascending L l;
+      }
 
   pub formed-narrows : (d : Diagram) (p : Facts) → Formed o d → Formed o (narrows o d p)
   formed-narrows (Leaf l) p h =
       subst (Formed o) (sym (narrows-leaf o p l))
-        (collect-formed (map (narrow-cell p) l) (each-of-map (CellFormed o) (λ c. ActionFormed (c .0) × Weight o (c .1)) (narrow-cell p) (λ c k. (cell-narrow p c (k .action), k .weight)) l (h .cells)))
+      (collect-formed (map (narrow-cell p) l) (each-of-map (CellFormed o) (λ c. ActionFormed (c .0) × Weight o (c .1)) (narrow-cell p) (λ c k. (cell-narrow p c (k .action), k .weight)) l (h .cells)))
   formed-narrows (Node f n y z) p h =
       go (narrowing o p f n y z) (formed-narrows y p (h .1)) (formed-narrows z p (h .2)) (formed-narrows y (also p (known f n)) (h .1))
     where
@@ -270,6 +290,7 @@ module _ {o : Ops} (L : Laws o) where
         where
           Y : Diagram
           Y = narrows o y (also p (known f n))
+
           node : NodeFormed o f n Y (narrows o z p)
           node =
               record {
@@ -278,7 +299,8 @@ module _ {o : Ops} (L : Laws o) where
                 yes-greater-fields = tests-map _ _ (λ g m t. t .0) Y (tests-narrows (λ g m. f < g) o y (also p (known f n)) (h .0 .yes-greater-fields));
                 no-greater-tests = tests-map _ _ (λ g m t. t .0) (narrows o z p) (tests-narrows (After f n) o z p (h .0 .no-greater-tests));
                 yes-narrowed = sets-map _ _ (λ g m t. t .0) Y (sets-narrows (Unlike f n) L y (also p (known f n)) (h .0 .yes-narrowed));
-                sides-differ = λ q. k (sym (sym (narrows-narrows z p (known f n) (formed-weighted o z (h .2)) (consistent-flip (known f n) p (consistent-known f n p (inl e)))) ∙ q)) }
+                sides-differ = λ q. k (sym (sym (narrows-narrows z p (known f n) (formed-weighted o z (h .2)) (consistent-flip (known f n) p (consistent-known f n p (inl e)))) ∙ q));
+              }
 
   -- facts that the diagram neither tests nor sets leave it as it is
   pub narrows-still : (d : Diagram) (p : Facts) → Formed o d → Tests (λ f n. p f ≡ None) d → Sets (λ f n. p f ≡ Some n → ⊥) d → narrows o d p ≡ d
@@ -293,6 +315,7 @@ module _ {o : Ops} (L : Laws o) where
           go None x′ r = refl
           go (Some n) None r = refl
           go (Some n) (Some m) r = choice-no (decide m n) None (Some m) (λ e. r m refl (ap {B = Option ℕ} Some (sym e)))
+
       cells : (m : List Cell) → Each (λ c. SetsOf (λ f n. p f ≡ Some n → ⊥) (c .0)) m → map (narrow-cell p) m ≡ m
       cells [] k = refl
       cells (c ∷ m) k = ap₂ {C = List Cell} (λ (a : Action) (r : List Cell). (a, c .1) ∷ r) (sets (c .0) p (k .0)) (cells m (k .1))
@@ -301,20 +324,26 @@ module _ {o : Ops} (L : Laws o) where
     where
       K : Facts
       K = known f n
+
       known-apart : (g : ℕ) → f < g → known f n g ≡ None
       known-apart g l = known-else f n g (λ q. omega arith)
+
       both : (g m : ℕ) → (p g ≡ None) × (f < g) → also p K g ≡ None
       both g m k = also-second p K g (k .0) ∙ known-apart g (k .1)
+
       pair-tests : (d : Diagram) → Tests (λ g m. p g ≡ None) d → Tests (λ g m. f < g) d → Tests (λ g m. also p K g ≡ None) d
       pair-tests d a b = tests-map _ _ both d (tests-both _ _ d a b)
+
       one-set : (g m : ℕ) → (p g ≡ Some m → ⊥) → Unlike f n g m → also p K g ≡ Some m → ⊥
       one-set g m a b e = cases (p g) refl e
         where
           cases : (x : Option ℕ) → p g ≡ x → or-else x (K g) ≡ Some m → ⊥
           cases None q r = b (known-only f n g m r .0) (known-only f n g m r .1)
           cases (Some j) q r = a (q ∙ r)
+
       pair-sets : (d : Diagram) → Sets (λ g m. p g ≡ Some m → ⊥) d → Sets (Unlike f n) d → Sets (λ g m. also p K g ≡ Some m → ⊥) d
       pair-sets d a b = sets-map _ _ (λ g m k. one-set g m (k .0) (k .1)) d (sets-both _ _ d a b)
+
       go : Narrowing o p f n y z → (Tests (λ g m. also p K g ≡ None) y → Sets (λ g m. also p K g ≡ Some m → ⊥) y → narrows o y (also p K) ≡ y) → narrows o z p ≡ z → narrows o (Node f n y z) p ≡ Node f n y z
       go (yes-side e r) iy iz = none-some n (sym (t .0) ∙ e)
       go (no-side m e k r) iy iz = none-some m (sym (t .0) ∙ e)
@@ -334,8 +363,10 @@ module _ {o : Ops} (L : Laws o) where
     where
       Y : Diagram
       Y = narrow o y f n
+
       Z : Diagram
       Z = narrow o z f n
+
       go : Dec (Y ≡ Z) → Making f n y z
       go (yes e) = alike e (choice-yes (equal-diagrams Y Z) z (Node f n Y z) e)
       go (no e) = apart e (choice-no (equal-diagrams Y Z) z (Node f n Y z) e)
@@ -366,8 +397,10 @@ module _ {o : Ops} (L : Laws o) where
     where
       W : Diagram → ℕ
       W d = weigh o d s t
+
       keeps : (d : Diagram) → Weighted o d → W (narrow o d f n) ≡ W d
       keeps d h = weigh-narrows L d (known f n) s t h (agrees-known f n s e)
+
       go : Making f n y z → W (make o f n y z) ≡ W y
       go (alike q r) = ap W r ∙ sym (keeps z b) ∙ sym (ap W q) ∙ keeps y a
       go (apart q r) = ap W r ∙ weigh-yes o f n (narrow o y f n) z s t e ∙ keeps y a
@@ -377,6 +410,7 @@ module _ {o : Ops} (L : Laws o) where
     where
       W : Diagram → ℕ
       W d = weigh o d s t
+
       go : Making f n y z → W (make o f n y z) ≡ W z
       go (alike q r) = ap W r
       go (apart q r) = ap W r ∙ weigh-no o f n (narrow o y f n) z s t e
@@ -397,6 +431,7 @@ module _ {o : Ops} (L : Laws o) where
                 where
                   less : f ≤ g → (f ≡ g → ⊥) → f < g
                   less i j = omega arith
+
           node : NodeFormed o f n (narrow o y f n) z
           node =
               record {
@@ -405,7 +440,8 @@ module _ {o : Ops} (L : Laws o) where
                 yes-greater-fields = tests-map _ _ greater (narrow o y f n) (tests-narrows (λ g m. f ≤ g) o y (known f n) t);
                 no-greater-tests = u;
                 yes-narrowed = sets-map _ _ (λ g m k i j. k .1 (ap (known f n) i ∙ known-there f n ∙ ap {B = Option ℕ} Some (sym j))) (narrow o y f n) (sets-narrows (λ g m. Unit {0}) L y (known f n) (cells-all _ (λ c g m e. tt) y));
-                sides-differ = λ r′. e (sym r′) }
+                sides-differ = λ r′. e (sym r′);
+              }
 
   pub make-extent : (f n : ℕ) (y z : Diagram) → extent (make o f n y z) ≤ 1 + (extent y + extent z)
   make-extent f n y z = go (making f n y z) (extent-narrows o y (known f n))

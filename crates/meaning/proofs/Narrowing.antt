@@ -122,16 +122,21 @@ narrowing o p f n y z = go (p f) refl
   where
     Y : Diagram
     Y = narrows o y (also p (known f n))
+
     Z : Diagram
     Z = narrows o z (also p (known f n))
+
     at : (k : Option ℕ) → p f ≡ k → narrows o (Node f n y z) p ≡ branch f n k (narrows o y p) (narrows o z p) Y Z
     at k e = ap (λ (x : Option ℕ). branch f n x (narrows o y p) (narrows o z p) Y Z) e
+
     told : (m : ℕ) → p f ≡ Some m → Dec (m ≡ n) → Narrowing o p f n y z
     told m e (yes q) = yes-side (e ∙ ap {B = Option ℕ} Some q) (at (Some m) e ∙ choice-yes (decide m n) (narrows o y p) (narrows o z p) q)
     told m e (no q) = no-side m e q (at (Some m) e ∙ choice-no (decide m n) (narrows o y p) (narrows o z p) q)
+
     untold : p f ≡ None → Dec (Y ≡ Z) → Narrowing o p f n y z
     untold e (yes q) = merged e q (at None e ∙ choice-yes (equal-diagrams Y Z) (narrows o z p) (Node f n Y (narrows o z p)) q)
     untold e (no q) = kept e q (at None e ∙ choice-no (equal-diagrams Y Z) (narrows o z p) (Node f n Y (narrows o z p)) q)
+
     go : (k : Option ℕ) → p f ≡ k → Narrowing o p f n y z
     go None e = untold e (equal-diagrams Y Z)
     go (Some m) e = told m e (decide m n)
@@ -194,6 +199,7 @@ tests-narrows P o (Node f n y z) p t =
   where
     Q : ℕ → ℕ → Type 0
     Q g m = P g m × (p g ≡ None)
+
     go : Narrowing o p f n y z → Tests Q (narrows o y p) → Tests Q (narrows o z p) → Tests (λ g m. P g m × (also p (known f n) g ≡ None)) (narrows o y (also p (known f n))) → Tests Q (narrows o (Node f n y z) p)
     go (yes-side e r) a b c = subst (Tests Q) (sym r) a
     go (no-side m e h r) a b c = subst (Tests Q) (sym r) b
@@ -204,10 +210,11 @@ tests-narrows P o (Node f n y z) p t =
 pub sets-narrows : (P : ℕ → ℕ → Type 0) {o : Ops} (L : Laws o) (d : Diagram) (p : Facts) → Sets P d → Sets (λ f n. P f n × (p f ≡ Some n → ⊥)) (narrows o d p)
 sets-narrows P {o} L (Leaf l) p t =
     subst (Sets Q) (sym (narrows-leaf o p l))
-      (collect-each L (λ c. SetsOf Q (c .0)) (λ a v w h k. h) (λ c. SetsOf Q (c .0)) (λ c h k. h) (map (narrow-cell p) l) (each-of-map (λ c. SetsOf P (c .0)) (λ c. SetsOf Q (c .0)) (narrow-cell p) one l t))
+    (collect-each L (λ c. SetsOf Q (c .0)) (λ a v w h k. h) (λ c. SetsOf Q (c .0)) (λ c h k. h) (map (narrow-cell p) l) (each-of-map (λ c. SetsOf P (c .0)) (λ c. SetsOf Q (c .0)) (narrow-cell p) one l t))
   where
     Q : ℕ → ℕ → Type 0
     Q g m = P g m × (p g ≡ Some m → ⊥)
+
     one : (c : Cell) → SetsOf P (c .0) → SetsOf Q (narrow-action p (c .0))
     one c h f n e = (h f n (k .0), k .1)
       where
@@ -218,6 +225,7 @@ sets-narrows P {o} L (Node f n y z) p t =
   where
     Q : ℕ → ℕ → Type 0
     Q g m = P g m × (p g ≡ Some m → ⊥)
+
     go : Narrowing o p f n y z → Sets Q (narrows o y p) → Sets Q (narrows o z p) → Sets (λ g m. P g m × (also p (known f n) g ≡ Some m → ⊥)) (narrows o y (also p (known f n))) → Sets Q (narrows o (Node f n y z) p)
     go (yes-side e r) a b c = subst (Sets Q) (sym r) a
     go (no-side m e h r) a b c = subst (Sets Q) (sym r) b
@@ -284,16 +292,18 @@ module _ {o : Ops} (L : Laws o) where
   pub weigh-narrows : (d : Diagram) (p : Facts) (s t : Frame) → Weighted o d → Agrees p s → weigh o (narrows o d p) s t ≡ weigh o d s t
   weigh-narrows (Leaf l) p s t h a =
       ap (λ (x : Diagram). weigh o x s t) (narrows-leaf o p l)
-        ∙ gather-collect L (emits-additive s t) (map (narrow-cell p) l) (narrow-cells-weights p l h)
-        ∙ gather-map o (emits o s t) (emits o s t) (narrow-cell p) (λ c. ap (λ (u : Frame). choice (equal-lists decide u t) (c .1) (o .zero)) (apply-narrow-action p (c .0) s a)) l
+      ∙ gather-collect L (emits-additive s t) (map (narrow-cell p) l) (narrow-cells-weights p l h)
+      ∙ gather-map o (emits o s t) (emits o s t) (narrow-cell p) (λ c. ap (λ (u : Frame). choice (equal-lists decide u t) (c .1) (o .zero)) (apply-narrow-action p (c .0) s a)) l
   weigh-narrows (Node f n y z) p s t h a =
       go (narrowing o p f n y z) (decide (getD s f 0) n) (weigh-narrows y p s t (h .0) a) (weigh-narrows z p s t (h .1) a)
-        (weigh-narrows y (also p (known f n)) s t (h .0)) (weigh-narrows z (also p (known f n)) s t (h .1))
+      (weigh-narrows y (also p (known f n)) s t (h .0)) (weigh-narrows z (also p (known f n)) s t (h .1))
     where
       W : Diagram → ℕ
       W d = weigh o d s t
+
       both : getD s f 0 ≡ n → Agrees (also p (known f n)) s
       both e = agrees-also p (known f n) s a (agrees-known f n s e)
+
       go : Narrowing o p f n y z → Dec (getD s f 0 ≡ n) → W (narrows o y p) ≡ W y → W (narrows o z p) ≡ W z → (Agrees (also p (known f n)) s → W (narrows o y (also p (known f n))) ≡ W y) → (Agrees (also p (known f n)) s → W (narrows o z (also p (known f n))) ≡ W z) → W (narrows o (Node f n y z) p) ≡ W (Node f n y z)
       go (yes-side e r) d iy iz jy jz = ap W r ∙ iy ∙ sym (weigh-yes o f n y z s t (a f n e))
       go (no-side m e k r) d iy iz jy jz = ap W r ∙ iz ∙ sym (weigh-no o f n y z s t (λ q. k (sym (a f m e) ∙ q)))

@@ -53,7 +53,8 @@ pub set-formed : (f n : ℕ) → LegalValue f n → ActionFormed (set keep-all f
 set-formed f n h =
     record {
       all-fields = length-set keep-all f (Some n) ∙ length-replicate {A = Option ℕ} fields None;
-      legal = λ g l. legal-set g (getD (set keep-all f (Some n)) g None) (λ m e. legal g m (one-set fields f n g m e)) }
+      legal = λ g l. legal-set g (getD (set keep-all f (Some n)) g None) (λ m e. legal g m (one-set fields f n g m e));
+    }
   where
     legal : (g m : ℕ) → (g ≡ f) × (m ≡ n) → LegalValue g m
     legal g m r = subst (λ (x : ℕ). LegalValue x m) (sym (r .0)) (subst (λ (x : ℕ). LegalValue f x) (sym (r .1)) h)
@@ -112,19 +113,22 @@ module _ {o : Ops} (L : Laws o) where
   pub single-formed : (a : Action) (w : ℕ) → ActionFormed a → Weight o w → Formed o (single o a w)
   single-formed a w h k =
       choice-both (LeafFormed o) (decide w (o .zero)) [] ((a, w) ∷ []) (λ e. record { cells = tt; ascending = tt })
-        (λ e. record { cells = (record { action = h; weight = k; not-zero = e }, tt); ascending = (tt, tt) })
+      (λ e. record { cells = (record { action = h; weight = k; not-zero = e }, tt); ascending = (tt, tt) })
 
   pub single-weighs : (a : Action) (w : ℕ) (s t : Frame) → Weight o w → weigh o (single o a w) s t ≡ only o (apply a s) t w
   single-weighs a w s t k = go (decide w (o .zero))
     where
       D : Dec (apply a s ≡ t)
       D = equal-lists decide (apply a s) t
+
       nothing : (d : Dec (apply a s ≡ t)) → w ≡ o .zero → o .zero ≡ choice d w (o .zero)
       nothing (yes q) e = sym e
       nothing (no q) e = refl
+
       kept : (d : Dec (apply a s ≡ t)) → o .join (choice d w (o .zero)) (o .zero) ≡ choice d w (o .zero)
       kept (yes q) = zero-right L w k
       kept (no q) = zero-right L (o .zero) (L .zero-weight)
+
       go : (d : Dec (w ≡ o .zero)) → gather o (emits o s t) (choice d [] ((a, w) ∷ [])) ≡ choice D w (o .zero)
       go (yes e) = nothing D e
       go (no e) = kept D
@@ -148,15 +152,18 @@ module _ {o : Ops} (L : Laws o) where
   drop-is-formed = record { cells = tt; ascending = tt }
 
   pub test-formed : (f n : ℕ) → f < fields → LegalValue f n → Formed o (test-diagram o f n)
-  test-formed f n p q =
-      (record {
-        field-exists = p;
-        value-legal = q;
-        yes-greater-fields = tt;
-        no-greater-tests = tt;
-        yes-narrowed = single-cells (λ c. SetsOf (Unlike f n) (c .0)) keep-all (o .one) (keep-sets (Unlike f n));
-        sides-differ = λ e. pass-is-not-drop (sym e ∙ narrows-leaf o (known f n) []) },
-       pass-formed, drop-is-formed)
+  test-formed f n p q = (
+    record {
+      field-exists = p;
+      value-legal = q;
+      yes-greater-fields = tt;
+      no-greater-tests = tt;
+      yes-narrowed = single-cells (λ c. SetsOf (Unlike f n) (c .0)) keep-all (o .one) (keep-sets (Unlike f n));
+      sides-differ = λ e. pass-is-not-drop (sym e ∙ narrows-leaf o (known f n) []);
+    },
+    pass-formed,
+    drop-is-formed,
+  )
 
   pub test-weighs : (f n : ℕ) (s t : Frame) → length s ≡ fields → weigh o (test-diagram o f n) s t ≡ choice (decide (getD s f 0) n) (only o s t (o .one)) (o .zero)
   test-weighs f n s t l = go (decide (getD s f 0) n)
@@ -176,7 +183,8 @@ module _ {o : Ops} (L : Laws o) where
       record {
         joins = λ a v w h k. (h .0, ap₂ (o .join) (h .1) (k .1) ∙ L .join-idempotent (o .one) (L .one-weight));
         narrows = λ p a w h. (ap (narrow-action p) (h .0) ∙ narrow-none fields p, h .1);
-        composes = λ a b v w h k. (ap₂ compose (h .0) (k .0), ap₂ (o .times) (h .1) (k .1) ∙ L .one-neutral-left (o .one) (L .one-weight)) }
+        composes = λ a b v w h k. (ap₂ compose (h .0) (k .0), ap₂ (o .times) (h .1) (k .1) ∙ L .one-neutral-left (o .one) (L .one-weight));
+      }
 
   pub plain-single : Cells (Plain o) (pass-diagram o)
   plain-single = single-cells (Plain o) keep-all (o .one) (refl, refl)
@@ -200,7 +208,8 @@ module _ {o : Ops} (L : Laws o) where
         tests = λ P t. tt;
         plain = plain-single;
         formed = pass-formed;
-        weighs = λ s t l. pass-weighs s t l ∙ sym (choice-yes (decide (o .zero) (o .zero)) (only o s t (o .one)) (o .zero) refl) }
+        weighs = λ s t l. pass-weighs s t l ∙ sym (choice-yes (decide (o .zero) (o .zero)) (only o s t (o .one)) (o .zero) refl);
+      }
 
   negated-pass : Negated (pass-diagram o) drop-diagram
   negated-pass =
@@ -208,7 +217,8 @@ module _ {o : Ops} (L : Laws o) where
         tests = λ P t. tt;
         plain = tt;
         formed = drop-is-formed;
-        weighs = λ s t l. sym (choice-no (decide (weigh o (pass-diagram o) s s) (o .zero)) (only o s t (o .one)) (o .zero) (λ e. L .one-is-not-zero (sym (pass-weighs s s l ∙ choice-yes (equal-lists decide s s) (o .one) (o .zero) refl) ∙ e))) }
+        weighs = λ s t l. sym (choice-no (decide (weigh o (pass-diagram o) s s) (o .zero)) (only o s t (o .one)) (o .zero) (λ e. L .one-is-not-zero (sym (pass-weighs s s l ∙ choice-yes (equal-lists decide s s) (o .one) (o .zero) refl) ∙ e)));
+      }
 
   negated-leaf : (l : List Cell) → LeafFormed o l → Each (Plain o) l → Negated (Leaf l) (negate-leaf o (Leaf l))
   negated-leaf l h k = go (plain-leaf l h k)
@@ -216,10 +226,10 @@ module _ {o : Ops} (L : Laws o) where
       go : (l ≡ []) ⊎ (Leaf l ≡ pass-diagram o) → Negated (Leaf l) (negate-leaf o (Leaf l))
       go (inl e) =
           subst (λ (m : List Cell). Negated (Leaf m) (negate-leaf o (Leaf m))) (sym e)
-            (subst (Negated drop-diagram) (sym (choice-yes (equal-diagrams drop-diagram drop-diagram) (pass-diagram o) (choice (equal-diagrams drop-diagram (pass-diagram o)) drop-diagram drop-diagram) refl)) negated-drop)
+          (subst (Negated drop-diagram) (sym (choice-yes (equal-diagrams drop-diagram drop-diagram) (pass-diagram o) (choice (equal-diagrams drop-diagram (pass-diagram o)) drop-diagram drop-diagram) refl)) negated-drop)
       go (inr e) =
           subst (λ (d : Diagram). Negated d (negate-leaf o d)) (sym e)
-            (subst (Negated (pass-diagram o)) (sym (choice-no (equal-diagrams (pass-diagram o) drop-diagram) (pass-diagram o) (choice (equal-diagrams (pass-diagram o) (pass-diagram o)) drop-diagram (pass-diagram o)) pass-is-not-drop ∙ choice-yes (equal-diagrams (pass-diagram o) (pass-diagram o)) drop-diagram (pass-diagram o) refl)) negated-pass)
+          (subst (Negated (pass-diagram o)) (sym (choice-no (equal-diagrams (pass-diagram o) drop-diagram) (pass-diagram o) (choice (equal-diagrams (pass-diagram o) (pass-diagram o)) drop-diagram (pass-diagram o)) pass-is-not-drop ∙ choice-yes (equal-diagrams (pass-diagram o) (pass-diagram o)) drop-diagram (pass-diagram o) refl)) negated-pass)
 
   negated-node : (f n : ℕ) (y z p q : Diagram) → Formed o (Node f n y z) → Negated y p → Negated z q → Negated (Node f n y z) (make o f n p q)
   negated-node f n y z p q h Y Z =
@@ -227,12 +237,15 @@ module _ {o : Ops} (L : Laws o) where
         tests = λ P t. make-tests L P f n p q (t .0) (Y .tests P (t .1)) (Z .tests P (t .2));
         plain = cells-make L plain-closed f n p q (Y .plain) (Z .plain);
         formed = make-formed L f n p q (h .0 .field-exists) (h .0 .value-legal) (Y .formed) (Z .formed) (Y .tests (λ g m. f ≤ g) (tests-map _ _ (λ g m k. less k) y (h .0 .yes-greater-fields))) (Z .tests (After f n) (h .0 .no-greater-tests));
-        weighs = λ s t l. go s t l (decide (getD s f 0) n) }
+        weighs = λ s t l. go s t l (decide (getD s f 0) n);
+      }
     where
       less : {g : ℕ} → f < g → f ≤ g
       less k = omega arith
+
       C : Frame → Frame → ℕ → ℕ
       C s t w = choice (decide w (o .zero)) (only o s t (o .one)) (o .zero)
+
       go : (s t : Frame) → length s ≡ fields → Dec (getD s f 0 ≡ n) → weigh o (make o f n p q) s t ≡ C s t (weigh o (Node f n y z) s s)
       go s t l (yes k) = make-weighs-yes L f n p q s t (formed-weighted o p (Y .formed)) (formed-weighted o q (Z .formed)) k ∙ Y .weighs s t l ∙ ap (C s t) (sym (weigh-yes o f n y z s s k))
       go s t l (no k) = make-weighs-no L f n p q s t k ∙ Z .weighs s t l ∙ ap (C s t) (sym (weigh-no o f n y z s s k))

@@ -121,6 +121,7 @@ module _ {o : Ops} (L : Laws o) (f n : ℕ) where
       later : (g m : ℕ) → After f n g m × (known f n g ≡ None) → f < g
       later g m (inl p, k) = p
       later g m (inr p, k) = none-some n (sym k ∙ choice-yes (decide g f) (Some n) None (sym (p .0)))
+
       go : Splitting o f n d → Tests (λ g m. f < g) (at o d f n)
       go (rooted y z e a b) = subst (Tests (λ g m. f < g)) (sym a) ((subst (Formed o) e h) .0 .yes-greater-fields)
       go (unrooted u a b) = subst (Tests (λ g m. f < g)) (sym a) (tests-map _ _ later (narrow o d f n) (tests-narrows (After f n) o d (known f n) (tests-after o f n d h r u)))
@@ -139,8 +140,8 @@ module _ {o : Ops} (L : Laws o) (f n : ℕ) where
       go (rooted y z e a b) = subst (Sets (Unlike f n)) (sym a) ((subst (Formed o) e h) .0 .yes-narrowed)
       go (unrooted u a b) =
           subst (Sets (Unlike f n)) (sym a)
-            (sets-map _ _ (λ g m k i j. k .1 (ap (known f n) i ∙ known-there f n ∙ ap {B = Option ℕ} Some (sym j))) (narrow o d f n)
-              (sets-narrows (λ g m. Unit {0}) L d (known f n) (cells-all _ (λ c g m e. tt) d)))
+          (sets-map _ _ (λ g m k i j. k .1 (ap (known f n) i ∙ known-there f n ∙ ap {B = Option ℕ} Some (sym j))) (narrow o d f n)
+          (sets-narrows (λ g m. Unit {0}) L d (known f n) (cells-all _ (λ c g m e. tt) d)))
 
   pub at-sets : (P : ℕ → ℕ → Type 0) (d : Diagram) → Sets P d → Sets P (at o d f n)
   at-sets P d t = go (splitting o f n d)
@@ -168,6 +169,7 @@ module _ {o : Ops} (L : Laws o) (f n : ℕ) where
     where
       W : Diagram → ℕ
       W x = weigh o x s t
+
       go : Splitting o f n d → W (at o d f n) ≡ W d
       go (rooted y z e a b) = ap W a ∙ sym (weigh-yes o f n y z s t q) ∙ sym (ap W e)
       go (unrooted u a b) = ap W a ∙ weigh-narrows L d (known f n) s t h (agrees-known f n s q)
@@ -177,6 +179,7 @@ module _ {o : Ops} (L : Laws o) (f n : ℕ) where
     where
       W : Diagram → ℕ
       W x = weigh o x s t
+
       go : Splitting o f n d → W (off d f n) ≡ W d
       go (rooted y z e a b) = ap W b ∙ sym (weigh-no o f n y z s t q) ∙ sym (ap W e)
       go (unrooted u a b) = ap W b
@@ -202,7 +205,7 @@ module _ {o : Ops} (L : Laws o) (f n : ℕ) where
       go : Splitting o f n (Node g m y z) → (extent (at o (Node g m y z) f n) < extent (Node g m y z)) × (extent (off (Node g m y z) f n) < extent (Node g m y z))
       go (rooted y′ z′ e a b) =
           subst (λ (x : Diagram). (extent (at o (Node g m y z) f n) < extent x) × (extent (off (Node g m y z) f n) < extent x)) (sym e)
-            (subst (λ (x : Diagram). extent x < 1 + (extent y′ + extent z′)) (sym a) (omega arith), subst (λ (x : Diagram). extent x < 1 + (extent y′ + extent z′)) (sym b) (omega arith))
+          (subst (λ (x : Diagram). extent x < 1 + (extent y′ + extent z′)) (sym a) (omega arith), subst (λ (x : Diagram). extent x < 1 + (extent y′ + extent z′)) (sym b) (omega arith))
       go (unrooted u a b) = absurd (u r)
 
 -- the smaller root of two diagrams
@@ -219,6 +222,7 @@ heads (Node f n y z) (Node g m v w) = go (order-tests f n g m) refl
   where
     T : Type 0
     T = Tri (After f n g m) ((f ≡ g) × (n ≡ m)) (After g m f n)
+
     go : (t : T) → order-tests f n g m ≡ t → Heads (Node f n y z) (Node g m v w)
     go (below a) e = split f n (ap (λ (t : T). Some (three t (f, n) (f, n) (g, m))) e) (inr (refl, refl)) (inl a) (inl (refl, refl))
     go (level a) e = split f n (ap (λ (t : T). Some (three t (f, n) (f, n) (g, m))) e) (inr (refl, refl)) (inr (sym (a .0), sym (a .1))) (inl (refl, refl))

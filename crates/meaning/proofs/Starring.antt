@@ -65,34 +65,41 @@ module _ {o : Ops} (L : Laws o) (d : Diagram) (hd : Formed o d) where
   pub sequence-lub : (b : Frame → Frame → ℕ) → ((h t : Frame) → Weight o (b h t)) → (s t : Frame) → InRange s → Lub o {I = (h : Frame) × InRange h} (λ h. o .times (weigh o d s (h .0)) (b (h .0) t)) (gather o (λ a w. o .times w (b (apply a s) t)) (reach d s))
   sequence-lub b wb s t r =
       subst (Lub o {I = (h : Frame) × InRange h} (λ h. o .times (weigh o d s (h .0)) (b (h .0) t))) (sym (gather-joins o (λ a w. o .times w (b (apply a s) t)) l))
-        (record { weight = joins-weight L l next next-weight; upper = λ h. bound h .below; least = λ c w k. joins-least L l next w (λ x i. under-trans L (one x i) (record { left = L .times-weight _ _ (weigh-weight L d s (apply (x .0) s) wd) (wb (apply (x .0) s) t); right = w; below = k (apply (x .0) s, apply-in-range (x .0) s (cell-formed s x i .action) r) })) .below })
+      (record { weight = joins-weight L l next next-weight; upper = λ h. bound h .below; least = λ c w k. joins-least L l next w (λ x i. under-trans L (one x i) (record { left = L .times-weight _ _ (weigh-weight L d s (apply (x .0) s) wd) (wb (apply (x .0) s) t); right = w; below = k (apply (x .0) s, apply-in-range (x .0) s (cell-formed s x i .action) r) })) .below })
     where
       l : List Cell
       l = reach d s
+
       wd : Weighted o d
       wd = formed-weighted o d hd
+
       next : Cell → ℕ
       next c = o .times (c .1) (b (apply (c .0) s) t)
+
       next-weight : (c : Cell) → In c l → Weight o (next c)
       next-weight c i = L .times-weight _ _ (cell-formed s c i .weight) (wb (apply (c .0) s) t)
+
       emit-weight : (h : Frame) (c : Cell) → In c l → Weight o (emits o s h (c .0) (c .1))
       emit-weight h c i = emits-additive L s h .weight (c .0) (c .1) (cell-formed s c i .weight)
+
       one : (c : Cell) → In c l → Under o (next c) (o .times (weigh o d s (apply (c .0) s)) (b (apply (c .0) s) t))
       one c i = times-mono-left L (wb (apply (c .0) s) t) (subst (λ (x : ℕ). Under o x (weigh o d s h)) (choice-yes (equal-lists decide h h) (c .1) (o .zero) refl) (subst (Under o (emits o s h (c .0) (c .1))) (sym (gather-joins o (emits o s h) l)) (joins-upper L l (λ x. emits o s h (x .0) (x .1)) (emit-weight h) c i)))
         where
           h : Frame
           h = apply (c .0) s
+
       term : (h : Frame) (c : Cell) → In c l → Under o (o .times (emits o s h (c .0) (c .1)) (b h t)) (next c)
       term h c i = go (equal-lists decide (apply (c .0) s) h)
         where
           go : (δ : Dec (apply (c .0) s ≡ h)) → Under o (o .times (choice δ (c .1) (o .zero)) (b h t)) (next c)
           go (yes e) = under-eq L (next-weight c i) (ap (λ (u : Frame). o .times (c .1) (b u t)) (sym e))
           go (no e) = subst (λ (x : ℕ). Under o x (next c)) (sym (L .zero-absorbs-left (b h t) (wb h t))) (zero-under L (next-weight c i))
+
       bound : (h : (u : Frame) × InRange u) → Under o (o .times (weigh o d s (h .0)) (b (h .0) t)) (joins o l next)
       bound h =
           subst (λ (x : ℕ). Under o x (joins o l next))
-            (sym (ap (λ (x : ℕ). o .times x (b (h .0) t)) (gather-joins o (emits o s (h .0)) l) ∙ joins-times L (b (h .0) t) l (λ x. emits o s (h .0) (x .0) (x .1)) (wb (h .0) t) (emit-weight (h .0))))
-            (joins-mono L l (λ x. o .times (emits o s (h .0) (x .0) (x .1)) (b (h .0) t)) next (term (h .0)))
+          (sym (ap (λ (x : ℕ). o .times x (b (h .0) t)) (gather-joins o (emits o s (h .0)) l) ∙ joins-times L (b (h .0) t) l (λ x. emits o s (h .0) (x .0) (x .1)) (wb (h .0) t) (emit-weight (h .0))))
+          (joins-mono L l (λ x. o .times (emits o s (h .0) (x .0) (x .1)) (b (h .0) t)) next (term (h .0)))
 
   -- the diagram's steps from frame to frame
   leads : Frame → Cell → Frame × ℕ
@@ -143,8 +150,8 @@ module _ {o : Ops} (L : Laws o) (d : Diagram) (hd : Formed o d) where
   unfolding leads
   joins-steps s e b =
       ap (λ (xs : List (Frame × ℕ)). joins o xs (λ p. o .times (p .1) (b (p .0)))) (step-there s e)
-        ∙ joins-map L (leads s) (reach d s) (λ p. o .times (p .1) (b (p .0)))
-        ∙ sym (gather-joins o (λ a w. o .times w (b (apply a s))) (reach d s))
+      ∙ joins-map L (leads s) (reach d s) (λ p. o .times (p .1) (b (p .0)))
+      ∙ sym (gather-joins o (λ a w. o .times w (b (apply a s))) (reach d s))
 
   -- the rounds
 
@@ -158,12 +165,12 @@ module _ {o : Ops} (L : Laws o) (d : Diagram) (hd : Formed o d) where
   round-weighs zero s t e = pass-weighs L s t e ∙ sym (stay-only s t)
   round-weighs (suc k) s t e =
       joined L (pass-diagram o) (sequence o d (round o d k)) (pass-formed L) (sequenced L (round o d k) (round-good k) d hd .formed) .weighs s t
-        ∙ ap₂ (o .join) (pass-weighs L s t e ∙ sym (stay-only s t))
-          (sequenced L (round o d k) (round-good k) d hd .weighs s t e
-            ∙ gather-joins o (λ a w. o .times w (weigh o (round o d k) (apply a s) t)) (reach d s)
-            ∙ joins-equal L (reach d s) (λ c. o .times (c .1) (weigh o (round o d k) (apply (c .0) s) t)) (λ c. o .times (c .1) (walk o same step k (apply (c .0) s) t)) (λ c i. ap (o .times (c .1)) (round-weighs k (apply (c .0) s) t (apply-long (c .0) s (cell-formed s c i .action) e)))
-            ∙ sym (gather-joins o (λ a w. o .times w (walk o same step k (apply a s) t)) (reach d s))
-            ∙ sym (joins-steps s e (λ h. walk o same step k h t)))
+      ∙ ap₂ (o .join) (pass-weighs L s t e ∙ sym (stay-only s t))
+      (sequenced L (round o d k) (round-good k) d hd .weighs s t e
+      ∙ gather-joins o (λ a w. o .times w (weigh o (round o d k) (apply a s) t)) (reach d s)
+      ∙ joins-equal L (reach d s) (λ c. o .times (c .1) (weigh o (round o d k) (apply (c .0) s) t)) (λ c. o .times (c .1) (walk o same step k (apply (c .0) s) t)) (λ c i. ap (o .times (c .1)) (round-weighs k (apply (c .0) s) t (apply-long (c .0) s (cell-formed s c i .action) e)))
+      ∙ sym (gather-joins o (λ a w. o .times w (walk o same step k (apply a s) t)) (reach d s))
+      ∙ sym (joins-steps s e (λ h. walk o same step k h t)))
 
   -- frames of another length stay where they are
   walk-elsewhere : (k : ℕ) (s t : Frame) → (length s ≡ fields → ⊥) → walk o same step (suc k) s t ≡ o .join (stay o same s t) (o .zero)
@@ -181,16 +188,18 @@ module _ {o : Ops} (L : Laws o) (d : Diagram) (hd : Formed o d) where
       still : (j : ℕ) → (length s ≡ fields → ⊥) → walk o same step j s t ≡ stay o same s t
       still zero h = refl
       still (suc j) h = walk-elsewhere j s t h ∙ stay-zero s t
+
       go : Dec (length s ≡ fields) → walk o same step (suc k) s t ≡ walk o same step k s t
       go (yes l) = sym (round-weighs (suc k) s t l) ∙ sym (ap (λ (x : Diagram). weigh o x s t) e) ∙ round-weighs k s t l
       go (no l) = still (suc k) l ∙ sym (still k l)
 
   -- a round that the next one repeats is the star
   pub star-means : (k : ℕ) → round o d k ≡ round o d (suc k) → IsStar o (weigh o d) (weigh o (round o d k))
-  star-means k e =
-      (power o same step,
-       record { none = λ s t p q. stay-only s t; more = λ j s t p q. subst (Lub o {I = (h : Frame) × InRange h} (λ h. o .times (weigh o d s (h .0)) (power o same step j (h .0) t))) (sym (joins-steps s (p .all-fields) (λ h. power o same step j h t))) (sequence-lub (power o same step j) (λ h u. power-weight L same step weighed j h u) s t p) },
-       λ s t p q. subst (Lub o (λ j. power o same step j s t)) (sym (round-weighs k s t (p .all-fields))) (rounds L same step weighed k .stopped-star (stopped k e) s t))
+  star-means k e = (
+    power o same step,
+    record { none = λ s t p q. stay-only s t; more = λ j s t p q. subst (Lub o {I = (h : Frame) × InRange h} (λ h. o .times (weigh o d s (h .0)) (power o same step j (h .0) t))) (sym (joins-steps s (p .all-fields) (λ h. power o same step j h t))) (sequence-lub (power o same step j) (λ h u. power-weight L same step weighed j h u) s t p) },
+    λ s t p q. subst (Lub o (λ j. power o same step j s t)) (sym (round-weighs k s t (p .all-fields))) (rounds L same step weighed k .stopped-star (stopped k e) s t),
+  )
 
 -- frames with given values in each field
 
@@ -236,6 +245,7 @@ in-frames (suc n) g (v ∷ s) e h = in-spread v s (g 0) (frames-among n (λ f. g
   where
     lower : suc (length s) ≡ suc n → length s ≡ n
     lower r = omega arith
+
     upper : (f : ℕ) → f < n → suc f < suc n
     upper f l = omega arith
 
@@ -274,15 +284,19 @@ module _ (names : ℕ → List ℕ) {o : Ops} (L : Laws o) (d : Diagram) (hd : F
     where
       P : ℕ → ℕ → Type 0
       P f n = In n (names f)
+
       S : Sequenced o d (round o d k) (sequence o d (round o d k))
       S = sequenced L (round o d k) (round-good L d hd k) d hd
+
       J : Joined o (pass-diagram o) (sequence o d (round o d k)) (join o (pass-diagram o) (sequence o d (round o d k)))
       J = joined L (pass-diagram o) (sequence o d (round o d k)) (pass-formed L) (S .formed)
+
       go : Named names (round o d k) → Named names (join o (pass-diagram o) (sequence o d (round o d k)))
       go n =
           record {
             tests = J .tests P tt (S .tests P (nd .tests) (n .tests));
-            sets = J .cells (λ c. SetsOf P (c .0)) (sets-closed o P) (single-cells L (λ c. SetsOf P (c .0)) _ _ (keep-sets P)) (S .cells (λ c. SetsOf P (c .0)) (sets-closed o P) (nd .sets) (n .sets)) }
+            sets = J .cells (λ c. SetsOf P (c .0)) (sets-closed o P) (single-cells L (λ c. SetsOf P (c .0)) _ _ (keep-sets P)) (S .cells (λ c. SetsOf P (c .0)) (sets-closed o P) (nd .sets) (n .sets));
+          }
 
   -- a frame whose fields hold what s holds, or a named value
   record Near (s x : Frame) : Type 0 where
@@ -294,16 +308,20 @@ module _ (names : ℕ → List ℕ) {o : Ops} (L : Laws o) (d : Diagram) (hd : F
     where
       P : ℕ → ℕ → Type 0
       P f n = In n (names f)
+
       go : (c : Cell) × In c (reach d x) × (length x ≡ fields) × (_≡_ {A = Frame × ℕ} (y, w) (apply (c .0) x, c .1)) → Near s y
       go (c, j, e, q) = subst (Near s) (sym (ap (λ (p : Frame × ℕ). p .0) q)) (record { long = apply-long (c .0) x formed e; holds = holds })
         where
           formed : ActionFormed (c .0)
           formed = cell-formed L d hd x c j .action
+
           value : (f : ℕ) (z : Option ℕ) → getD (c .0) f None ≡ z → f < fields → In (replaced z (getD x f 0)) (getD s f 0 ∷ names f)
           value f None r l = h .holds f l
           value f (Some n) r l = inr (each-in (λ b. SetsOf P (b .0)) (reach d x) (reach-cells (λ b. SetsOf P (b .0)) d x (nd .sets)) c j f n r)
+
           within : {m f : ℕ} → m ≡ fields → f < fields → f < m
           within a b = omega arith
+
           holds : (f : ℕ) → f < fields → In (getD (apply (c .0) x) f 0) (getD s f 0 ∷ names f)
           holds f l = subst (λ (v : ℕ). In v (getD s f 0 ∷ names f)) (sym (getD-apply (c .0) x f (within (formed .all-fields) l) (within e l))) (value f (getD (c .0) f None) refl l)
 
@@ -319,14 +337,16 @@ module _ (names : ℕ → List ℕ) {o : Ops} (L : Laws o) (d : Diagram) (hd : F
   unfolding enough-rounds
   star-ends enough =
       same-weights-same names enough L (round o d K) (round o d (suc K)) (round-good L d hd K) (round-good L d hd (suc K)) (round-named K) (round-named (suc K)) (λ s t p q.
-        round-weighs L d hd K s t (p .all-fields)
-          ∙ sym (rounds L (same L d hd) (step L d hd) (weighed L d hd) K .ends s (frames-among fields (λ f. getD s f 0 ∷ names f)) (λ n x c v h. inr (met s (p .all-fields) x (near-walked s (p .all-fields) n x c v))) (few s) t)
-          ∙ sym (round-weighs L d hd (suc K) s t (p .all-fields)))
+      round-weighs L d hd K s t (p .all-fields)
+      ∙ sym (rounds L (same L d hd) (step L d hd) (weighed L d hd) K .ends s (frames-among fields (λ f. getD s f 0 ∷ names f)) (λ n x c v h. inr (met s (p .all-fields) x (near-walked s (p .all-fields) n x c v))) (few s) t)
+      ∙ sym (round-weighs L d hd (suc K) s t (p .all-fields)))
     where
       K : ℕ
       K = length (frames-among fields (λ f. 0 ∷ names f))
+
       met : (s : Frame) → length s ≡ fields → (x : Frame) → Near s x → In x (frames-among fields (λ f. getD s f 0 ∷ names f))
       met s e x h = in-frames fields (λ f. getD s f 0 ∷ names f) x (h .long) (h .holds)
+
       few : (s : Frame) → length (frames-among fields (λ f. getD s f 0 ∷ names f)) ≤ K
       few s = bound (length-frames fields (λ f. getD s f 0 ∷ names f) (λ f. 0 ∷ names f) (λ f. refl))
         where

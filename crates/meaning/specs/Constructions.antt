@@ -83,10 +83,10 @@ join o d e = join-by o (extent d + extent e) d e
 abbrev pub choose-at : Ops → (Diagram → Diagram → Diagram) → Tested → ℕ → ℕ → Diagram → Diagram → Diagram
 choose-at o further u f n y z =
     choice (equal-tests (u .0) (u .1) f n)
-      (make o f n y (off z f n))
-      (make o (u .0) (u .1)
-        (choice (decide (u .0) f) (at o z (u .0) (u .1)) (further (at o y (u .0) (u .1)) (at o z (u .0) (u .1))))
-        (further (off y (u .0) (u .1)) (off z (u .0) (u .1))))
+    (make o f n y (off z f n))
+    (make o (u .0) (u .1)
+    (choice (decide (u .0) f) (at o z (u .0) (u .1)) (further (at o y (u .0) (u .1)) (at o z (u .0) (u .1))))
+    (further (off y (u .0) (u .1)) (off z (u .0) (u .1))))
 
 unfoldable pub choose-by : Ops → ℕ → ℕ → ℕ → Diagram → Diagram → Diagram
 choose-by o zero f n y z = Leaf []

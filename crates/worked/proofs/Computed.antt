@@ -26,7 +26,7 @@ tested-or-set = refl
 
 three-are-two :
     join reach-ops (join reach-ops (test-diagram reach-ops 1 1) (sequence reach-ops (test-diagram reach-ops 1 2) (single reach-ops (set keep-all 2 (Some 6)) 1))) (negate reach-ops (join reach-ops (test-diagram reach-ops 1 1) (test-diagram reach-ops 1 2)))
-      ≡ join reach-ops (sequence reach-ops (test-diagram reach-ops 1 2) (single reach-ops (set keep-all 2 (Some 6)) 1)) (negate reach-ops (test-diagram reach-ops 1 2))
+    ≡ join reach-ops (sequence reach-ops (test-diagram reach-ops 1 2) (single reach-ops (set keep-all 2 (Some 6)) 1)) (negate reach-ops (test-diagram reach-ops 1 2))
 unfolding narrows join-by join choose-by choose prefix sequence-cells sequence negate round ℕ-discrete decLt decLe
 three-are-two = refl
 
@@ -139,13 +139,15 @@ worked =
     record {
       test-then-set-is-the-test = subst (Compiles reach-ops test-then-set) tested-and-set (sequences (tests 1 3) (sets 1 3));
       set-where-needed-is-the-set = subst (Compiles reach-ops set-where-needed) tested-or-set (unions (tests 1 3) (sequences (nots (tests 1 3)) (sets 1 3)));
-      set-again-at-port-3 = λ d c t.
-        (ap (λ (x : Diagram). weigh reach-ops x (at-port 3) (at-port 3)) (compiles-once reach-ops set-again-and-again d (round reach-ops set-3 1) c again-compiles) ∙ set-3-itself,
-         λ h. ap (λ (x : Diagram). weigh reach-ops x (at-port 3) t) (compiles-once reach-ops set-again-and-again d (round reach-ops set-3 1) c again-compiles) ∙ set-3-nothing-else t h);
+      set-again-at-port-3 = λ d c t. (
+        ap (λ (x : Diagram). weigh reach-ops x (at-port 3) (at-port 3)) (compiles-once reach-ops set-again-and-again d (round reach-ops set-3 1) c again-compiles) ∙ set-3-itself,
+        λ h. ap (λ (x : Diagram). weigh reach-ops x (at-port 3) t) (compiles-once reach-ops set-again-and-again d (round reach-ops set-3 1) c again-compiles) ∙ set-3-nothing-else t h,
+      );
       two-costs-emit-at-2 = λ d c. ap (λ (x : Diagram). weigh cost-ops x (at-port 7) (at-port 1)) (compiles-once cost-ops two-costs d cost-diagram c costs-compile) ∙ cost-2;
       ways-from-port-1 = λ d c. subst WaysWeigh (sym (compiles-once cost-ops ways d (round cost-ops links 2) c ways-compile)) links-weigh;
       a-set-is-not-negated = λ l. l .0;
       three-parts-are-two = λ d e c c′.
-        compiles-once reach-ops three-parts d _ c (unions (unions (tests 1 1) (sequences (tests 1 2) (sets 2 6))) (nots (unions (tests 1 1) (tests 1 2))))
+          compiles-once reach-ops three-parts d _ c (unions (unions (tests 1 1) (sequences (tests 1 2) (sets 2 6))) (nots (unions (tests 1 1) (tests 1 2))))
           ∙ three-are-two
-          ∙ sym (compiles-once reach-ops two-parts e _ c′ (unions (sequences (tests 1 2) (sets 2 6)) (nots (tests 1 2)))) }
+          ∙ sym (compiles-once reach-ops two-parts e _ c′ (unions (sequences (tests 1 2) (sets 2 6)) (nots (tests 1 2))));
+    }
