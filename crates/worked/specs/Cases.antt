@@ -2,7 +2,7 @@
 use mathlib.Core.Path.{_≡_}
 use mathlib.Core.List.{List, [], _∷_}
 use Prim.Native.Nat.{ℕ}
-use lib.ListN.{set, replicate}
+use lib.ListN.{length, getD, set}
 use Rattle.std.specs.declared.option.Option.the-variants.{Some}
 use Rattle.format.specs.Fields.{fields}
 use Rattle.format.specs.Actions.{keep-all}
@@ -16,6 +16,7 @@ use Rattle.meaning.specs.Diagrams.{Diagram, Leaf, weigh}
 use Rattle.meaning.specs.Constructions.{Compiles}
 use Rattle.listing.specs.Rows.{rows-of}
 use Rattle.tables.specs.Rows.{table-words}
+use Rattle.tables.specs.Emits.{Sent, Answer}
 
 -- the fields that the cases name
 abbrev pub pt : ℕ
@@ -23,10 +24,6 @@ pt = 1
 
 abbrev pub vlan : ℕ
 vlan = 2
-
--- the frame at port n whose other fields hold zero
-abbrev pub at-port : ℕ → Frame
-at-port n = set (replicate fields 0) pt n
 
 -- the table of the policy's diagram is these words
 abbrev pub Tabled : Ops → Policy → List ℕ → Type 0
@@ -40,9 +37,19 @@ OneDiagram o p q = (d : Diagram) × Compiles o p d × Compiles o q d
 abbrev pub Same : Policy → Policy → Type 0
 Same p q = OneDiagram reach-ops p q × OneDiagram cost-ops p q
 
--- the policy's diagram gives weight w from frame s to frame t
-abbrev pub Gives : Ops → Policy → Frame → Frame → ℕ → Type 0
-Gives o p s t w = (d : Diagram) × Compiles o p d × (weigh o d s t ≡ w)
+-- a frame at port m
+pub record AtPort (m : ℕ) (s : Frame) : Type 0 where
+  pub all-fields : length s ≡ fields
+  pub port : getD s pt 0 ≡ m
+
+-- from every frame at port m the policy's diagram gives weight w to the same frame at port n
+abbrev pub Moves : Ops → Policy → ℕ → ℕ → ℕ → Type 0
+Moves o p m n w = (d : Diagram) × Compiles o p d × ((s : Frame) → AtPort m s → weigh o d s (set s pt n) ≡ w)
+
+-- the table of the policy's diagram answers every frame at port m by that frame alone, once, at weight w
+abbrev pub Returns : Ops → Policy → ℕ → ℕ → Type 0
+Returns o p m w =
+    (d : Diagram) × Compiles o p d × ((s : Frame) → AtPort m s → Answer o (rows-of d) s (record { frame = s; weight = w } ∷ []))
 
 -- `pt=m;pt:=n;cost c`
 abbrev pub link : ℕ → ℕ → ℕ → Policy
@@ -68,13 +75,14 @@ pub record WorkedCases : Type 0 where
   -- `(pt:=3)*` keeps the frame or sets its port, each once
   pub set-again :
       Compiles reach-ops (Star (Set pt 3)) (Leaf ((keep-all, reach-ops .one) ∷ (set keep-all pt (Some 3), reach-ops .one) ∷ []))
-  -- and so it gives a frame at port 3 weight one
-  pub set-again-at-port-3 : Gives reach-ops (Star (Set pt 3)) (at-port 3) (at-port 3) (reach-ops .one)
+  -- and so a frame at port 3 is emitted once, at weight one
+  pub set-again-gives-one : Moves reach-ops (Star (Set pt 3)) 3 3 (reach-ops .one)
+  pub set-again-emits-once : Returns reach-ops (Star (Set pt 3)) 3 (reach-ops .one)
   -- `(cost 5+cost 2);pt:=1`
-  pub the-lower-cost : (n : ℕ) → Gives cost-ops (Sequence (Union (Cost 5) (Cost 2)) (Set pt 1)) (at-port n) (at-port 1) 2
-  -- from port 1
-  pub ways-to-port-1 : Gives cost-ops ways (at-port 1) (at-port 1) 0
-  pub ways-to-port-2 : Gives cost-ops ways (at-port 1) (at-port 2) 4
-  pub ways-to-port-3 : Gives cost-ops ways (at-port 1) (at-port 3) 8
+  pub the-lower-cost : (m : ℕ) → Moves cost-ops (Sequence (Union (Cost 5) (Cost 2)) (Set pt 1)) m 1 2
+  -- from port 1 the way by port 2 costs less than the way straight to port 3
+  pub ways-to-port-1 : Moves cost-ops ways 1 1 0
+  pub ways-to-port-2 : Moves cost-ops ways 1 2 4
+  pub ways-to-port-3 : Moves cost-ops ways 1 3 8
   -- `!pt:=3`
   pub a-set-negated : Refused (postfix (Not (Set pt 3))) (NoPredicate 1)
