@@ -7,10 +7,10 @@ use mathlib.Core.Logic.{inl, inr}
 use native.Mathlib.Omega.{arith}
 use native.Mathlib.Decide.{ℕ-discrete, decLt, decLe}
 use lib.ListN.{length, getD, set}
-use Rattle.std.specs.declared.option.Option.the-variants.{Some, None}
+use Rattle.std.specs.declared.option.Option.the-variants.{Some}
 use Rattle.format.specs.Fields.{fields}
 use Rattle.format.specs.Actions.{apply, keep-all}
-use Rattle.format.specs.Policy.{Policy, postfix, Test, Set, Cost, Not, Union, Sequence, Star}
+use Rattle.format.specs.Policy.{postfix, Test, Set, Cost, Not, Union, Sequence, Star}
 use Rattle.faults.specs.declared.layers.CheckFault.the-variants.{NoPredicate}
 use Rattle.format.specs.declared.settings.PolicyWord.{PolicyWord}
 use Rattle.policy.specs.Checking.{Refused}
@@ -22,15 +22,13 @@ use Rattle.meaning.specs.Decide.{choice, decide, equal-lists}
 use Rattle.meaning.proofs.Gathering.{choice-yes, choice-no}
 use Rattle.meaning.proofs.Simple.{apply-keep, apply-set}
 use Rattle.meaning.specs.Diagrams.{Diagram, Leaf, Node, narrows, reach, emits, weigh}
-use Rattle.meaning.specs.Constructions.{Compiles, join-by, join, choose-by, choose, prefix, sequence-cells, sequence, negate, round, drops, passes, tests, sets, costs, nots, unions, sequences, stars, test-diagram, single, pass-diagram, drop-diagram}
+use Rattle.meaning.specs.Constructions.{Compiles, join-by, join, choose-by, choose, prefix, sequence-cells, sequence, negate, round, tests, sets, costs, nots, unions, sequences, stars, test-diagram, single, pass-diagram, drop-diagram}
 use Rattle.listing.specs.Rows.{rows-of}
 use Rattle.listing.proofs.Leaves.{eqb-yes}
-use Rattle.tables.specs.Rows.{table-words}
 use Rattle.tables.specs.Emits.{Sent, Answer, In, same}
 use Rattle.tables.specs.Emits as Table
 use Rattle.tables.proofs.Scans.{same-decides}
-use Rattle.worked.specs.Cases.{WorkedCases, Tabled, OneDiagram, AtPort, Moves, Returns, pt, vlan, link, ways}
-
+use Rattle.worked.specs.Cases.{WorkedCases, Tabled, OneDiagram, AtPort, Moves, pt, vlan, link, ways}
 
 moved : Tabled reach-ops (Sequence (Test pt 1) (Set pt 2)) (0xA1000001 ∷ 0xB1000001 ∷ 0xC0000001 ∷ 0xD1000002 ∷ 0xA0000000 ∷ 0xE0000002 ∷ [])
 unfolding join-by join choose-by choose prefix sequence-cells sequence negate round narrows ℕ-discrete decLt decLe
@@ -46,14 +44,14 @@ reach-set-where-it-differs = (single reach-ops (set keep-all 1 (Some 3)) (reach-
 
 reach-the-rest-passes :
     OneDiagram reach-ops
-      (Union (Union (Test pt 1) (Sequence (Test pt 2) (Set vlan 6))) (Not (Union (Test pt 1) (Test pt 2))))
-      (Union (Sequence (Test pt 2) (Set vlan 6)) (Not (Test pt 2)))
+    (Union (Union (Test pt 1) (Sequence (Test pt 2) (Set vlan 6))) (Not (Union (Test pt 1) (Test pt 2))))
+    (Union (Sequence (Test pt 2) (Set vlan 6)) (Not (Test pt 2)))
 unfolding join-by join choose-by choose prefix sequence-cells sequence negate round narrows ℕ-discrete decLt decLe
-reach-the-rest-passes =
-    ( Node 1 2 (single reach-ops (set keep-all 2 (Some 6)) (reach-ops .one)) (pass-diagram reach-ops)
-    , unions (unions (tests 1 1) (sequences (tests 1 2) (sets 2 6))) (nots (unions (tests 1 1) (tests 1 2)))
-    , unions (sequences (tests 1 2) (sets 2 6)) (nots (tests 1 2))
-    )
+reach-the-rest-passes = (
+  Node 1 2 (single reach-ops (set keep-all 2 (Some 6)) (reach-ops .one)) (pass-diagram reach-ops),
+  unions (unions (tests 1 1) (sequences (tests 1 2) (sets 2 6))) (nots (unions (tests 1 1) (tests 1 2))),
+  unions (sequences (tests 1 2) (sets 2 6)) (nots (tests 1 2)),
+)
 
 cost-set-to-what-was-tested : OneDiagram cost-ops (Sequence (Test pt 3) (Set pt 3)) (Test pt 3)
 unfolding join-by join choose-by choose prefix sequence-cells sequence negate round narrows ℕ-discrete decLt decLe
@@ -65,14 +63,14 @@ cost-set-where-it-differs = (single cost-ops (set keep-all 1 (Some 3)) (cost-ops
 
 cost-the-rest-passes :
     OneDiagram cost-ops
-      (Union (Union (Test pt 1) (Sequence (Test pt 2) (Set vlan 6))) (Not (Union (Test pt 1) (Test pt 2))))
-      (Union (Sequence (Test pt 2) (Set vlan 6)) (Not (Test pt 2)))
+    (Union (Union (Test pt 1) (Sequence (Test pt 2) (Set vlan 6))) (Not (Union (Test pt 1) (Test pt 2))))
+    (Union (Sequence (Test pt 2) (Set vlan 6)) (Not (Test pt 2)))
 unfolding join-by join choose-by choose prefix sequence-cells sequence negate round narrows ℕ-discrete decLt decLe
-cost-the-rest-passes =
-    ( Node 1 2 (single cost-ops (set keep-all 2 (Some 6)) (cost-ops .one)) (pass-diagram cost-ops)
-    , unions (unions (tests 1 1) (sequences (tests 1 2) (sets 2 6))) (nots (unions (tests 1 1) (tests 1 2)))
-    , unions (sequences (tests 1 2) (sets 2 6)) (nots (tests 1 2))
-    )
+cost-the-rest-passes = (
+  Node 1 2 (single cost-ops (set keep-all 2 (Some 6)) (cost-ops .one)) (pass-diagram cost-ops),
+  unions (unions (tests 1 1) (sequences (tests 1 2) (sets 2 6))) (nots (unions (tests 1 1) (tests 1 2))),
+  unions (sequences (tests 1 2) (sets 2 6)) (nots (tests 1 2)),
+)
 
 -- to set the port to what it is changes nothing
 set-own : (m : ℕ) (s : Frame) → AtPort m s → set s pt m ≡ s
@@ -93,7 +91,7 @@ emits-to o s a w k n l e = go (decide k n)
     go (yes q) = choice-yes (equal-lists decide (apply a s) (set s pt n)) w (o .zero) (e ∙ ap (set s pt) q)
     go (no h) =
         choice-no (equal-lists decide (apply a s) (set s pt n)) w (o .zero)
-          (λ r. h (sym (port-set k s l) ∙ ap (λ (t : Frame). getD t pt 0) (sym e ∙ r) ∙ port-set n s l))
+        (λ r. h (sym (port-set k s l) ∙ ap (λ (t : Frame). getD t pt 0) (sym e ∙ r) ∙ port-set n s l))
 
 kept : (o : Ops) (s : Frame) (m w n : ℕ) → AtPort m s → emits o s (set s pt n) keep-all w ≡ choice (decide m n) w (o .zero)
 kept o s m w n h = emits-to o s keep-all w m n (h .all-fields) (apply-keep s (h .all-fields) ∙ sym (set-own m s h))
@@ -135,13 +133,15 @@ again-answer s h =
   where
     own : Table.emits reach-ops (rows-of again-diagram) s s ≡ 1
     own = again-emits s s h ∙ ap (λ (b : Bool). cond b 1 0) (same-self s)
+
     sound : (x : Sent) → In {X = Sent} x (record { frame = s; weight = 1 } ∷ []) → (Table.emits reach-ops (rows-of again-diagram) s (x .frame) ≡ x .weight) × (x .weight ≡ 0 → ⊥)
     sound x (inl e) =
         let P : Sent → Type 0 = λ y. (Table.emits reach-ops (rows-of again-diagram) s (y .frame) ≡ y .weight) × (y .weight ≡ 0 → ⊥) in
         subst P (sym e) (own, λ q. omega arith)
     sound x (inr z) = absurd z
+
     go : (t : Frame) → (Table.emits reach-ops (rows-of again-diagram) s t ≡ 0 → ⊥) → (b : Bool) → same s t ≡ b
-      → In {X = Sent} (record { frame = t; weight = Table.emits reach-ops (rows-of again-diagram) s t }) (record { frame = s; weight = 1 } ∷ [])
+        → In {X = Sent} (record { frame = t; weight = Table.emits reach-ops (rows-of again-diagram) s t }) (record { frame = s; weight = 1 } ∷ [])
     go t n true q =
         let w : Table.emits reach-ops (rows-of again-diagram) s t ≡ 1 = again-emits s t h ∙ ap (λ (b : Bool). cond b 1 0) q in
         let e : t ≡ s = sym (same-decides s t .0 q) in
@@ -222,7 +222,7 @@ negated-words = postfix (Not (Set pt 3))
 set-waits : Progress negated-words 1 (false ∷ [])
 set-waits =
     advanced negated-words 0 (PolicyWord.Set (record { field = 1; value = 3; exists = omega arith; legal = omega arith })) [] (false ∷ [])
-      (omega arith) tt refl (omega arith) (started negated-words [] refl) refl
+    (omega arith) tt refl (omega arith) (started negated-words [] refl) refl
 
 negated : Refused negated-words (NoPredicate 1)
 negated =
@@ -232,11 +232,13 @@ pub worked-cases : WorkedCases
 unfolding ℕ-discrete
 worked-cases =
     record {
+      names = (refl, refl);
+      words = record { words-of-moved = refl; words-of-tested-then-set = refl; words-of-set-if-other = refl; words-of-split-in-three = refl; words-of-split-in-two = refl; words-of-set-again = refl; words-of-two-costs = refl; words-of-ways = refl; words-of-negated-set = refl };
       a-port-moved = moved;
       set-to-what-was-tested = (reach-set-to-what-was-tested, cost-set-to-what-was-tested);
       set-where-it-differs = (reach-set-where-it-differs, cost-set-where-it-differs);
       the-rest-passes = (reach-the-rest-passes, cost-the-rest-passes);
-      set-again = again;
+      set-again-compiled = again;
       set-again-gives-one = (again-diagram, again, again-weighs);
       set-again-emits-once = (again-diagram, again, again-answer);
       the-lower-cost = lower-cost;
