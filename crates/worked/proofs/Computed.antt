@@ -10,7 +10,7 @@ use lib.ListN.{length, getD, set}
 use Rattle.std.specs.declared.option.Option.the-variants.{Some}
 use Rattle.format.specs.Fields.{fields}
 use Rattle.format.specs.Actions.{apply, keep-all}
-use Rattle.format.specs.Policy.{postfix, Test, Set, Cost, Not, Union, Sequence, Star}
+use Rattle.format.specs.Policy.{postfix, Test, Set, Union}
 use Rattle.faults.specs.declared.layers.CheckFault.the-variants.{NoPredicate}
 use Rattle.format.specs.declared.settings.PolicyWord.{PolicyWord}
 use Rattle.policy.specs.Checking.{Refused}
@@ -28,24 +28,22 @@ use Rattle.listing.proofs.Leaves.{eqb-yes}
 use Rattle.tables.specs.Emits.{Sent, Answer, In, same}
 use Rattle.tables.specs.Emits as Table
 use Rattle.tables.proofs.Scans.{same-decides}
-use Rattle.worked.specs.Cases.{WorkedCases, Tabled, OneDiagram, AtPort, Moves, pt, vlan, link, ways}
+use Rattle.worked.specs.Cases.{WorkedCases, Tabled, OneDiagram, AtPort, Moves, pt, moved, tested-then-set, set-if-other, split-in-three, split-in-two, set-again, two-costs, link, ways, negated-set}
 
-moved : Tabled reach-ops (Sequence (Test pt 1) (Set pt 2)) (0xA1000001 ∷ 0xB1000001 ∷ 0xC0000001 ∷ 0xD1000002 ∷ 0xA0000000 ∷ 0xE0000002 ∷ [])
+moved-tabled : Tabled reach-ops moved (0xA1000001 ∷ 0xB1000001 ∷ 0xC0000001 ∷ 0xD1000002 ∷ 0xA0000000 ∷ 0xE0000002 ∷ [])
 unfolding join-by join choose-by choose prefix sequence-cells sequence negate round narrows ℕ-discrete decLt decLe
-moved = (Node 1 1 (single reach-ops (set keep-all 1 (Some 2)) 1) drop-diagram, sequences (tests 1 1) (sets 1 2), refl)
+moved-tabled = (Node 1 1 (single reach-ops (set keep-all 1 (Some 2)) 1) drop-diagram, sequences (tests 1 1) (sets 1 2), refl)
 
-reach-set-to-what-was-tested : OneDiagram reach-ops (Sequence (Test pt 3) (Set pt 3)) (Test pt 3)
+reach-set-to-what-was-tested : OneDiagram reach-ops tested-then-set (Test pt 3)
 unfolding join-by join choose-by choose prefix sequence-cells sequence negate round narrows ℕ-discrete decLt decLe
 reach-set-to-what-was-tested = (test-diagram reach-ops 1 3, sequences (tests 1 3) (sets 1 3), tests 1 3)
 
-reach-set-where-it-differs : OneDiagram reach-ops (Union (Test pt 3) (Sequence (Not (Test pt 3)) (Set pt 3))) (Set pt 3)
+reach-set-where-it-differs : OneDiagram reach-ops set-if-other (Set pt 3)
 unfolding join-by join choose-by choose prefix sequence-cells sequence negate round narrows ℕ-discrete decLt decLe
 reach-set-where-it-differs = (single reach-ops (set keep-all 1 (Some 3)) (reach-ops .one), unions (tests 1 3) (sequences (nots (tests 1 3)) (sets 1 3)), sets 1 3)
 
-reach-the-rest-passes :
-    OneDiagram reach-ops
-    (Union (Union (Test pt 1) (Sequence (Test pt 2) (Set vlan 6))) (Not (Union (Test pt 1) (Test pt 2))))
-    (Union (Sequence (Test pt 2) (Set vlan 6)) (Not (Test pt 2)))
+reach-the-rest-passes : OneDiagram reach-ops
+    split-in-three split-in-two
 unfolding join-by join choose-by choose prefix sequence-cells sequence negate round narrows ℕ-discrete decLt decLe
 reach-the-rest-passes = (
   Node 1 2 (single reach-ops (set keep-all 2 (Some 6)) (reach-ops .one)) (pass-diagram reach-ops),
@@ -53,18 +51,16 @@ reach-the-rest-passes = (
   unions (sequences (tests 1 2) (sets 2 6)) (nots (tests 1 2)),
 )
 
-cost-set-to-what-was-tested : OneDiagram cost-ops (Sequence (Test pt 3) (Set pt 3)) (Test pt 3)
+cost-set-to-what-was-tested : OneDiagram cost-ops tested-then-set (Test pt 3)
 unfolding join-by join choose-by choose prefix sequence-cells sequence negate round narrows ℕ-discrete decLt decLe
 cost-set-to-what-was-tested = (test-diagram cost-ops 1 3, sequences (tests 1 3) (sets 1 3), tests 1 3)
 
-cost-set-where-it-differs : OneDiagram cost-ops (Union (Test pt 3) (Sequence (Not (Test pt 3)) (Set pt 3))) (Set pt 3)
+cost-set-where-it-differs : OneDiagram cost-ops set-if-other (Set pt 3)
 unfolding join-by join choose-by choose prefix sequence-cells sequence negate round narrows ℕ-discrete decLt decLe
 cost-set-where-it-differs = (single cost-ops (set keep-all 1 (Some 3)) (cost-ops .one), unions (tests 1 3) (sequences (nots (tests 1 3)) (sets 1 3)), sets 1 3)
 
-cost-the-rest-passes :
-    OneDiagram cost-ops
-    (Union (Union (Test pt 1) (Sequence (Test pt 2) (Set vlan 6))) (Not (Union (Test pt 1) (Test pt 2))))
-    (Union (Sequence (Test pt 2) (Set vlan 6)) (Not (Test pt 2)))
+cost-the-rest-passes : OneDiagram cost-ops
+    split-in-three split-in-two
 unfolding join-by join choose-by choose prefix sequence-cells sequence negate round narrows ℕ-discrete decLt decLe
 cost-the-rest-passes = (
   Node 1 2 (single cost-ops (set keep-all 2 (Some 6)) (cost-ops .one)) (pass-diagram cost-ops),
@@ -102,7 +98,7 @@ moved-to o s k w n l = emits-to o s (set keep-all pt (Some k)) w k n l (apply-se
 abbrev again-diagram : Diagram
 again-diagram = Leaf ((keep-all, reach-ops .one) ∷ (set keep-all pt (Some 3), reach-ops .one) ∷ [])
 
-again : Compiles reach-ops (Star (Set pt 3)) again-diagram
+again : Compiles reach-ops set-again again-diagram
 unfolding join-by join choose-by choose prefix sequence-cells sequence negate round narrows ℕ-discrete decLt decLe
 again = stars 1 (sets 1 3) refl
 
@@ -152,7 +148,7 @@ lower-cost-weighs : (m : ℕ) (s : Frame) → AtPort m s → weigh cost-ops (Lea
 unfolding ℕ-discrete
 lower-cost-weighs m s h = λ i. min (moved-to cost-ops s 1 2 1 (h .all-fields) i) (cost-ops .zero)
 
-lower-cost : (m : ℕ) → Moves cost-ops (Sequence (Union (Cost 5) (Cost 2)) (Set pt 1)) m 1 2
+lower-cost : (m : ℕ) → Moves cost-ops two-costs m 1 2
 unfolding join-by join choose-by choose prefix sequence-cells sequence negate round narrows ℕ-discrete decLt decLe
 lower-cost m = (Leaf ((set keep-all pt (Some 1), 2) ∷ []), sequences (unions (costs 5) (costs 2)) (sets 1 1), lower-cost-weighs m)
 
@@ -216,7 +212,7 @@ ways-weigh n s h =
 
 -- the words of `!pt:=3`
 abbrev negated-words : List ℕ
-negated-words = postfix (Not (Set pt 3))
+negated-words = postfix negated-set
 
 -- after the first word an operand waits that is no predicate
 set-waits : Progress negated-words 1 (false ∷ [])
@@ -234,7 +230,7 @@ worked-cases =
     record {
       names = (refl, refl);
       words = record { words-of-moved = refl; words-of-tested-then-set = refl; words-of-set-if-other = refl; words-of-split-in-three = refl; words-of-split-in-two = refl; words-of-set-again = refl; words-of-two-costs = refl; words-of-ways = refl; words-of-negated-set = refl };
-      a-port-moved = moved;
+      a-port-moved = moved-tabled;
       set-to-what-was-tested = (reach-set-to-what-was-tested, cost-set-to-what-was-tested);
       set-where-it-differs = (reach-set-where-it-differs, cost-set-where-it-differs);
       the-rest-passes = (reach-the-rest-passes, cost-the-rest-passes);
@@ -246,4 +242,5 @@ worked-cases =
       ways-to-port-2 = (ways-diagram, ways-compiled, ways-weigh 2);
       ways-to-port-3 = (ways-diagram, ways-compiled, ways-weigh 3);
       a-set-negated = negated;
+      shown-as-8-at-word-1 = (refl, refl);
     }

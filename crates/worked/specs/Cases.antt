@@ -9,6 +9,7 @@ use Rattle.format.specs.Fields.{fields, field-name}
 use Rattle.format.specs.Actions.{keep-all}
 use Rattle.format.specs.Policy.{Policy, postfix, Test, Set, Cost, Not, Union, Sequence, Star}
 use Rattle.faults.specs.declared.layers.CheckFault.the-variants.{NoPredicate}
+use Rattle.faults.specs.Shows.{check-shown}
 use Rattle.policy.specs.Checking.{Refused}
 use Rattle.weights.specs.Weights.{Ops}
 use Rattle.weights.specs.Kinds.{reach-ops, cost-ops}
@@ -128,5 +129,6 @@ pub record WorkedCases : Type 0 where
   pub ways-to-port-1 : Moves cost-ops ways 1 1 0
   pub ways-to-port-2 : Moves cost-ops ways 1 2 4
   pub ways-to-port-3 : Moves cost-ops ways 1 3 8
-  -- `!pt:=3`
+  -- `!pt:=3`: what is negated at word 1 is no predicate
   pub a-set-negated : Refused (postfix negated-set) (NoPredicate 1)
+  pub shown-as-8-at-word-1 : (check-shown (NoPredicate 1) .number ≡ 8) × (check-shown (NoPredicate 1) .place ≡ 1)
