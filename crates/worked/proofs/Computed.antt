@@ -11,8 +11,8 @@ use Rattle.std.specs.declared.option.Option.the-variants.{Some}
 use Rattle.format.specs.Fields.{fields}
 use Rattle.format.specs.Actions.{apply, keep-all}
 use Rattle.format.specs.Policy.{postfix, Test, Set, Union}
-use Rattle.faults.specs.declared.layers.CheckFault.the-variants.{NoPredicate}
 use Rattle.format.specs.declared.settings.PolicyWord.{PolicyWord}
+use Rattle.faults.specs.declared.layers.CheckFault.the-variants.{NoPredicate}
 use Rattle.policy.specs.Checking.{Refused}
 use Rattle.policy.proofs.Verdicts.{Progress, started, advanced, blocked}
 use Rattle.weights.specs.Weights.{Ops}
@@ -229,7 +229,18 @@ unfolding ℕ-discrete
 worked-cases =
     record {
       names = (refl, refl);
-      words = record { words-of-moved = refl; words-of-tested-then-set = refl; words-of-set-if-other = refl; words-of-split-in-three = refl; words-of-split-in-two = refl; words-of-set-again = refl; words-of-two-costs = refl; words-of-ways = refl; words-of-negated-set = refl };
+      words =
+          record {
+            words-of-moved = refl;
+            words-of-tested-then-set = refl;
+            words-of-set-if-other = refl;
+            words-of-split-in-three = refl;
+            words-of-split-in-two = refl;
+            words-of-set-again = refl;
+            words-of-two-costs = refl;
+            words-of-ways = refl;
+            words-of-negated-set = refl;
+          };
       a-port-moved = moved-tabled;
       set-to-what-was-tested = (reach-set-to-what-was-tested, cost-set-to-what-was-tested);
       set-where-it-differs = (reach-set-where-it-differs, cost-set-where-it-differs);

@@ -20,7 +20,7 @@ use Rattle.listing.specs.Rows.{rows-of}
 use Rattle.tables.specs.Rows.{table-words}
 use Rattle.tables.specs.Emits.{Sent, Answer}
 
--- the fields that the cases name
+-- the fields of the cases
 abbrev pub pt : ℕ
 pt = 1
 
@@ -93,7 +93,7 @@ two-costs = Sequence (Union (Cost 5) (Cost 2)) (Set pt 1)
 abbrev pub negated-set : Policy
 negated-set = Not (Set pt 3)
 
--- the words of the policies, as they are read from their texts
+-- the words in which the policies are stored
 pub record WorkedWords : Type 0 where
   pub words-of-moved : postfix moved ≡ 0x21000001 ∷ 0x31000002 ∷ 0x70000000 ∷ []
   pub words-of-tested-then-set : postfix tested-then-set ≡ 0x21000003 ∷ 0x31000003 ∷ 0x70000000 ∷ []
