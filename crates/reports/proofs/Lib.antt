@@ -1,1 +1,1 @@
-mod Appended
+pub mod Appended
