@@ -25,5 +25,5 @@ before-differs s t k l m ne =
     let q = drop-more t k 0 m in
     ap (λ x. before x (drop k t)) p ∙ ap (before (getD s k 0 ∷ drop (k + 1) s)) q ∙ grind (arith, tells)
 
-pub before-end : (s t : List ℕ) (k : ℕ) → length s ≤ k → before (drop k s) (drop k t) ≡ false
-before-end s t k l = ap (λ x. before x (drop k t)) (drop-all k s l)
+pub before-end : (s t : List ℕ) (k : ℕ) → length s ≤ k → length t ≤ k → before (drop k s) (drop k t) ≡ false
+before-end s t k l m = ap (λ x. before x (drop k t)) (drop-all k s l) ∙ ap (before []) (drop-all k t m)

@@ -1,6 +1,6 @@
 -- Frames by the values of their fields, and the words in which a frame is stored.
 use mathlib.Core.Path.{_≡_}
-use mathlib.Core.Bool.{Bool, false, _&&_, _||_}
+use mathlib.Core.Bool.{Bool, true, false, _&&_, _||_}
 use mathlib.Core.List.{List, [], _∷_}
 use Prim.Native.Nat.{ℕ, _+_, _<_}
 use lib.Dec.{ltb, eqb}
@@ -30,7 +30,8 @@ FieldWord f w = (w ≡ word 9 f (value-of w)) × LegalValue f (value-of w)
 
 -- s comes before t: the first field in which they differ is smaller in s
 abbrev pub before : List ℕ → List ℕ → Bool
-before [] t = false
+before [] [] = false
+before [] (n ∷ t) = true
 before (m ∷ s) [] = false
 before (m ∷ s) (n ∷ t) = ltb m n || (eqb m n && before s t)
 

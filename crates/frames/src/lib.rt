@@ -19,7 +19,7 @@ use format::KIND_UNIT;
 use format::Setting;
 use format::Word;
 pub use frame::Frame;
-use frame::WIDTH;
+pub use frame::WIDTH;
 
 // The kind of a frame's words.
 const FRAME_KIND: u32 = 9;

@@ -5,3 +5,4 @@ pub mod Marking
 pub mod Verdicts
 pub mod Determinism
 pub mod Policies
+pub mod Lengths

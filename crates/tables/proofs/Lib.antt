@@ -3,3 +3,7 @@ pub mod Checks
 pub mod Reached
 pub mod Scans
 pub mod Rows
+pub mod Order
+pub mod Listed
+pub mod Puts
+pub mod Answers

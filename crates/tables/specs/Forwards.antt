@@ -32,6 +32,10 @@ pub record Written (o : Ops) (rows : List Row) (s was : List ℕ) (n : ℕ) (is 
   pub front : take n is ≡ joined sent-words answer
   pub past : drop n is ≡ drop n was
 
+-- the words are those of a frame, and its answer was written
+abbrev pub Answered : Ops → List Row → List ℕ → List ℕ → ℕ → List ℕ → Type 0
+Answered o rows ws was n is = (s : List ℕ) × FrameValues s × (ws ≡ frame-words s) × Written o rows s was n is
+
 -- more frames are emitted than so many words hold
 pub record Overfull (o : Ops) (rows : List Row) (s : List ℕ) (room : ℕ) : Type 0 where
   pub frames : List (List ℕ)

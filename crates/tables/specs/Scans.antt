@@ -1,10 +1,11 @@
 -- What a scan of words finds, whatever the words are.
 use mathlib.Core.Path.{_≡_}
 use mathlib.Core.Bool.{Bool, true, cond, _&&_, _||_}
-use mathlib.Core.List.{List, [], _∷_}
-use Prim.Native.Nat.{ℕ, suc}
+use mathlib.Core.List.{List, [], _∷_, _++_, map}
+use Prim.Native.Nat.{ℕ, suc, _*_, _<_}
 use lib.Dec.{eqb, ltb}
-use lib.ListN.{getD, set}
+use lib.ListN.{length, getD, set, drop}
+use Rattle.std.specs.shelf.Lists.{joined}
 use Rattle.std.specs.declared.option.Option.{Option}
 use Rattle.std.specs.declared.option.Option.the-variants.{Some, None}
 use Rattle.format.specs.Fields.{fields, range}
@@ -12,7 +13,7 @@ use Rattle.format.specs.Words.{kind-of, field-of, value-of}
 use Rattle.frames.specs.Frames.{before}
 use Rattle.frames.specs.declared.frame.Frame.{Frame}
 use Rattle.weights.specs.Weights.{Ops}
-use Rattle.tables.specs.Emits.{Sent, same}
+use Rattle.tables.specs.Emits.{Sent, sent-words, same, In, Ascending}
 
 -- a head or an end, before which a row is over
 abbrev pub closes : ℕ → Bool
@@ -63,3 +64,20 @@ least last best (x ∷ xs) = least last (cond (above last (x .frame) && below (x
 abbrev pub values-of : Option Frame → Option (List ℕ)
 values-of None = None
 values-of (Some s) = Some (s .values)
+
+-- what a row sends, written: its frames ascending, each once with its joined weight, and the words behind them as they were
+pub record RowSent (o : Ops) (xs : List Sent) (was : List ℕ) (n : ℕ) (is : List ℕ) : Type 0 where
+  pub list : List Sent
+  pub ascending : Ascending (map (λ x. x .frame) list)
+  pub weighed : (x : Sent) → In x list → x .weight ≡ value-of (weight-in o (x .frame) (o .zero) xs)
+  pub only : (t : List ℕ) → In t (map (λ x. x .frame) list) → In t (map (λ x. x .frame) xs)
+  pub every : (t : List ℕ) → In t (map (λ x. x .frame) xs) → In t (map (λ x. x .frame) list)
+  pub count : n ≡ length (joined sent-words list)
+  pub written : is ≡ joined sent-words list ++ drop n was
+
+-- a row sends more frames than so many words hold
+pub record RowFull (xs : List Sent) (room : ℕ) : Type 0 where
+  pub frames : List (List ℕ)
+  pub ascending : Ascending frames
+  pub only : (t : List ℕ) → In t frames → In t (map (λ x. x .frame) xs)
+  pub many : room < 9 * length frames

@@ -20,4 +20,5 @@ returns-then-self-field c =
 pub returns : need.returns
 returns c =
     let l : length (c .args .self .now .values) ≤ c .loop-field .field = omega arith in
-    sym (before-end (c .args .self .now .values) (c .args .other .now .values) (c .loop-field .field) l) ∙ c .loop-field .inv
+    let m : length (c .args .other .now .values) ≤ c .loop-field .field = omega arith in
+    sym (before-end (c .args .self .now .values) (c .args .other .now .values) (c .loop-field .field) l m) ∙ c .loop-field .inv
