@@ -50,6 +50,6 @@ pub data Record (o : Ops) (table frames : List ℕ) : List ℕ → Type 0 where
       (rows : List Row) (text : List ℕ) →
       LegalRows o rows →
       table ≡ table-words rows →
-      FramesSaid o rows (sent-width * length table) frames text →
+      FramesSaid o rows (length table * sent-width) frames text →
       Record o table frames (table-lines table ++ text)
   no-table : (place : ℕ) → Stops o table place → Record o table frames (refused-line (table-shown (Illegal place)))

@@ -1,1 +1,1 @@
-pub mod Appended
+pub use Rattle.numerals.proofs.Appended

@@ -31,7 +31,7 @@ fn kind_name(kind: u32) -> &'static [u8]
 }
 
 // Appends a field, a sign and a value, as `pt=3`.
-pub fn push_setting(out: &mut Vec<u8>, word: Word, sign: &[u8]) -> Result<(), AllocError>
+fn push_setting(out: &mut Vec<u8>, word: Word, sign: &[u8]) -> Result<(), AllocError>
     ensures { λ r. ⌜ made r (λ _. vec-items (now (out .exit)) ≡ vec-items (now (out .entry)) ++ (field-name (word .field) ++ (now (sign .entry) ++ decimal (word .value)))) ⌝ }
 {
     out.extend_from_slice(field_name(word.field))?;

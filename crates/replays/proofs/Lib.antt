@@ -1,0 +1,5 @@
+mod Texts
+mod Words
+mod Emitted
+mod Widths
+mod Frames

@@ -1,0 +1,22 @@
+use mathlib.Core.Path.{refl, ap, _∙_}
+use Rattle.std.specs.Of.Vec.{vec-items}
+use Rattle.std.specs.Written.{decimal}
+use Rattle.format.specs.Fields.{field-name}
+use Rattle.format.specs.Words.{field-of, value-of}
+use Rattle.replays.proofs.Texts.{labelled}
+use Rattle.replays.proofs.lines.push_labelled.Needs as need
+
+pub returns : need.returns
+returns c =
+    labelled
+    (vec-items (c .args .out .now))
+    (c .args .label .now)
+    (field-name (field-of (c .args .bits)))
+    (c .args .sign .now)
+    (decimal (value-of (c .args .bits)))
+    (c .field-name .result .now)
+    refl
+    (c .in-Continue-extend-from-slice .ensures tt .items)
+    (c .field-name .ensures)
+    (c .in-Continue-extend-from-slice-2 .ensures tt .items)
+    (c .in-Continue-push-number .ensures tt)
