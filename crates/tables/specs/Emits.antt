@@ -3,10 +3,11 @@ use mathlib.Core.Path.{_≡_}
 use mathlib.Core.Bool.{Bool, true, false, cond, _&&_}
 use mathlib.Core.List.{List, [], _∷_, _++_, map}
 use mathlib.Core.Logic.{_⊎_}
-use Prim.Native.Nat.{ℕ}
+use Prim.Native.Nat.{ℕ, suc}
 use lib.Dec.{eqb}
 use lib.ListN.{getD, set}
 use Rattle.frames.specs.Frames.{before, frame-words}
+use Rattle.format.specs.Fields.{fields}
 use Rattle.format.specs.Words.{word}
 use Rattle.weights.specs.Weights.{Ops}
 use Rattle.tables.specs.Rows.{Pair, Emission, Row}
@@ -41,6 +42,10 @@ emits o (r ∷ rows) s t = cond (holds (r .matches) s) (joins o s t (o .zero) (r
 pub record Sent : Type 0 where
   pub frame : List ℕ
   pub weight : ℕ
+
+-- how many words an emitted frame takes
+abbrev pub sent-length : ℕ
+sent-length = suc fields
 
 -- a weight word and the frame's words
 abbrev pub sent-words : Sent → List ℕ

@@ -10,7 +10,7 @@ use Rattle.faults.specs.declared.layers.FrameFault.the-variants.{Length, BadWor
 use Rattle.frames.specs.Frames.{FrameValues, NoFrame, frame-words}
 use Rattle.weights.specs.Weights.{Ops}
 use Rattle.tables.specs.Rows.{Row, row-words}
-use Rattle.tables.specs.Emits.{Sent, sent-words, emits, holds, Answer, In, Ascending}
+use Rattle.tables.specs.Emits.{Sent, sent-length, sent-words, emits, holds, Answer, In, Ascending}
 
 -- the first row whose matches all hold of frame s, as the part of the table's words where it stands
 pub record Decides (rows : List Row) (s ws found : List ℕ) : Type 0 where
@@ -41,7 +41,7 @@ pub record Overfull (o : Ops) (rows : List Row) (s : List ℕ) (room : ℕ) : Ty
   pub frames : List (List ℕ)
   pub ascending : Ascending frames
   pub emitted : (t : List ℕ) → In t frames → emits o rows s t ≡ o .zero → ⊥
-  pub many : room < 9 * length frames
+  pub many : room < sent-length * length frames
 
 -- why a frame's words are not forwarded: they are no frame, or else the answer does not fit
 abbrev pub Refused : Ops → List Row → List ℕ → ℕ → FrameFault → Type 0

@@ -13,7 +13,7 @@ use Rattle.format.specs.Words.{kind-of, field-of, value-of}
 use Rattle.frames.specs.Frames.{before}
 use Rattle.frames.specs.declared.frame.Frame.{Frame}
 use Rattle.weights.specs.Weights.{Ops}
-use Rattle.tables.specs.Emits.{Sent, sent-words, same, In, Ascending}
+use Rattle.tables.specs.Emits.{Sent, sent-length, sent-words, same, In, Ascending}
 
 -- a head or an end, before which a row is over
 abbrev pub closes : ℕ → Bool
@@ -80,4 +80,4 @@ pub record RowFull (xs : List Sent) (room : ℕ) : Type 0 where
   pub frames : List (List ℕ)
   pub ascending : Ascending frames
   pub only : (t : List ℕ) → In t frames → In t (map (λ x. x .frame) xs)
-  pub many : room < 9 * length frames
+  pub many : room < sent-length * length frames

@@ -18,8 +18,8 @@ use super::WEIGHT;
 use super::state::State;
 use faults::TableFault;
 use format::FIELDS;
-use format::FIELD_UNIT;
 use format::Setting;
+use format::VALUE_END;
 use format::Word;
 use weights::WeightKind;
 
@@ -70,7 +70,7 @@ impl Checker {
         requires { ⌜ field < 16 ⌝ ∗ ⌜ value < value-end ⌝ ∗ ⌜ now self .rows < value-end ⌝ }
         ensures { λ r. ⌜ ((o : Ops) → Takes o (now (self .entry) .rows) Head (word 10 field value) r (now (self .exit) .rows) (now (self .exit) .state)) ⌝ }
     {
-        if self.rows + 1 >= FIELD_UNIT || field > FIELDS {
+        if self.rows + 1 >= VALUE_END || field > FIELDS {
             return false;
         }
         self.rows += 1;

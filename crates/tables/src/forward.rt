@@ -9,7 +9,7 @@ ghost use Rattle.std.specs.declared.option.Option.the-variants.{None};
 ghost use Rattle.format.specs.Words.{value-of};
 ghost use Rattle.tables.specs.Rows.{Row, LegalRows, table-words};
 ghost use Rattle.faults.specs.declared.layers.FrameFault.the-variants.{NoRoom};
-ghost use Rattle.tables.specs.Emits.{sent-words};
+ghost use Rattle.tables.specs.Emits.{sent-length, sent-words};
 ghost use Rattle.tables.specs.Scans.{RowSent, RowFull, applied as applied-to, sends, weight-in, least, above, below, values-of};
 ghost use Rattle.tables.specs.Forwards.{Answered, Refused};
 
@@ -17,9 +17,9 @@ use super::SET;
 use super::WEIGHT;
 use super::check::CheckedTable;
 use faults::FrameFault;
-use format::FIELD_UNIT;
 use format::KIND_UNIT;
 use format::Setting;
+use format::VALUE_END;
 use format::Word;
 use frames::Frame;
 use frames::WIDTH;
@@ -97,11 +97,11 @@ fn is_between(frame: &Frame, low: Option<Frame>, high: Option<Frame>) -> bool
 
 // Writes an emitted frame from a place on: a weight word and the frame's words.
 fn write_sent(out: &mut [u32], at: usize, weight: u32, frame: &Frame)
-    requires { ⌜ at + 9 ≤ length (now out) ⌝ }
-    ensures { λ _. ⌜ now (out .exit) ≡ take at (now (out .entry)) ++ (sent-words (record { frame = now (frame .entry) .values; weight = value-of weight }) ++ drop (at + 9) (now (out .entry))) ⌝ }
+    requires { ⌜ at + sent-length ≤ length (now out) ⌝ }
+    ensures { λ _. ⌜ now (out .exit) ≡ take at (now (out .entry)) ++ (sent-words (record { frame = now (frame .entry) .values; weight = value-of weight }) ++ drop (at + sent-length) (now (out .entry))) ⌝ }
 {
     // A weight has 24 bits: the remainder is the weight itself.
-    out[at] = WEIGHT * KIND_UNIT + weight % FIELD_UNIT;
+    out[at] = WEIGHT * KIND_UNIT + weight % VALUE_END;
     let words = frame.words();
     out[at + 1..at + SENT_WORDS].copy_from_slice(&words);
 }
