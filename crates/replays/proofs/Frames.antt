@@ -2,7 +2,7 @@
 use mathlib.Core.Path.{_≡_, refl, ap, sym, _∙_, subst}
 use mathlib.Core.List.{List, [], _∷_, _++_, append-assoc, append-nil}
 use Prim.Native.Nat.{ℕ, _+_, _-_, _≤_, _<_, min}
-use native.Mathlib.Nat.{min-eq-left, min-eq-right}
+use native.Mathlib.Nat.{min-eq-left, min-eq-right, min-le-right}
 use native.Mathlib.Omega.{arith}
 use native.Mathlib.Decide.{decLe}
 use lib.ListN.{length, take, drop, length-drop, length-take}
@@ -46,7 +46,7 @@ told-more o rows room left words was mid is said some t frame e =
     in let whole : (rest : List ℕ) → FramesSaid o rows room (drop fields left) rest → FramesSaid o rows room words ((t .before ++ said) ++ rest) =
         λ rest f.
         let P : List ℕ → Type 0 = λ text. FramesSaid o rows room words text
-        in subst P (sym (append-assoc (t .before) said rest)) (t .whole (said ++ rest) (frame-first left said rest some frame f))
+        in subst P (sym (append-assoc (t .before) said rest)) (t .whole (said ++ rest) (FramesSaid.frame-first left said rest some frame f))
     in record { before = t .before ++ said; text = e ∙ ap (λ m. m ++ said) (t .text) ∙ regroup; whole = whole }
 
 pub told-all :
@@ -57,7 +57,7 @@ pub told-all :
 told-all o rows room left words was is e t =
     let P : List ℕ → Type 0 = λ ws. FramesSaid o rows room ws []
     in let Q : List ℕ → Type 0 = λ text. FramesSaid o rows room words text
-    in (t .before, subst Q (append-nil (t .before)) (t .whole [] (subst P (sym e) no-frame)), t .text)
+    in (t .before, subst Q (append-nil (t .before)) (t .whole [] (subst P (sym e) FramesSaid.no-frame)), t .text)
 
 -- the words of the frame at a place, of which there may be too few
 pub part-is :
@@ -102,7 +102,8 @@ answer-fits o rows ws was is n a =
     let w = a .3
     in let l = length-take n is
     in let e : length (take n is) ≡ n = ap length (w .front) ∙ sym (w .count)
-    in ?fits
+    in let r = min-le-right n (length is)
+    in omega arith
 
 -- the frame and its answer
 pub frame-answered :
@@ -135,3 +136,21 @@ frame-refused o rows room ws fault was mid is r f e =
     let line = refused-line (frame-shown fault)
     in let regroup = append-assoc was (frame-line ws) line
     in (frame-line ws ++ line, FrameSaid.refused fault r, e ∙ ap (λ m. m ++ line) f ∙ regroup)
+
+-- one frame more at a place
+pub told-next :
+    (o : Ops) (rows : List Row) (lent room at width n : ℕ) (words was mid is : List ℕ) →
+    lent ≡ room →
+    at < length words →
+    width ≡ min (length words - at) fields →
+    n ≡ width →
+    Told o rows room (drop at words) words was mid →
+    (said : List ℕ) × FrameSaid o rows lent (take n (drop at words)) said × (is ≡ mid ++ said) →
+    Told o rows room (drop (at + width) words) words was is
+told-next o rows lent room at width n words was mid is k inside e m t frame =
+    let d = length-drop at words
+    in let Q : List ℕ → Type 0 = λ left. Told o rows room left words was is
+    in let R : ℕ → Type 0 = λ n. FrameSaid o rows n (take fields (drop at words)) (frame .0)
+    in let S : List ℕ → Type 0 = λ ws. FrameSaid o rows lent ws (frame .0)
+    in let said = subst R k (subst S (part-is words at n (m ∙ e)) (frame .1))
+    in subst Q (sym (rest-is words at width e)) (told-more o rows room (drop at words) words was mid is (frame .0) (omega arith) t said (frame .2))

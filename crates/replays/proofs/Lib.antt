@@ -1,5 +1,6 @@
 mod Texts
-mod Words
+mod Fours
 mod Emitted
 mod Widths
 mod Frames
+mod Records

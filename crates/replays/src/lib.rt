@@ -25,7 +25,6 @@ use lines::push_line;
 use lines::push_table;
 use std::alloc::AllocError;
 use std::alloc::Global;
-use std::mem::forget;
 use tables::CheckedTable;
 use tables::check_table;
 use weights::WeightKind;
@@ -106,18 +105,13 @@ fn replayed<K: WeightKind>(heap: Global, table: &CheckedTable<'_, K>, words: &[u
 }
 
 // The record of frames that go through a table of the kind K, both as bytes.
-pub fn replay<K: WeightKind>(heap: Global, table: &[u8], frames: &[u8]) -> Result<Vec<u8>, AllocError>
+pub fn replay<K: WeightKind + Drop>(heap: Global, table: &[u8], frames: &[u8]) -> Result<Vec<u8>, AllocError>
     ensures { λ r. ⌜ made r (λ v. Record (K·WeightKind .ops) (words-of (now (table .entry))) (words-of (now (frames .entry))) (vec-items v)) ⌝ }
 {
     let words = read_words(heap, table)?;
     let frame_words = read_words(heap, frames)?;
     match check_table::<K>(&words) {
-        Ok(checked) => {
-            let record = replayed(heap, &checked, &words, &frame_words);
-            // A checked table owns nothing that would have to be ended.
-            forget(checked);
-            record
-        }
+        Ok(checked) => replayed(heap, &checked, &words, &frame_words),
         Err(fault) => refused_line(heap, fault.shown()),
     }
 }

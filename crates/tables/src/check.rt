@@ -24,6 +24,7 @@ use format::Word;
 use weights::WeightKind;
 
 // The words of a legal table of the kind K, which only the check makes.
+#[derive(Drop)]
 pub struct CheckedTable<'a, K> {
     pub(crate) words: &'a [u32],
     pub(crate) kind: [K; 0],

@@ -3,6 +3,7 @@ ghost use Rattle.weights.specs.Kinds.{cost-ops};
 use crate::TOP;
 use crate::WeightKind;
 
+#[derive(Drop)]
 pub struct Cost;
 
 pub impl WeightKind for Cost as CostWeights {

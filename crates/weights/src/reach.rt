@@ -2,6 +2,7 @@
 ghost use Rattle.weights.specs.Kinds.{reach-ops};
 use crate::WeightKind;
 
+#[derive(Drop)]
 pub struct Reach;
 
 pub impl WeightKind for Reach as ReachWeights {

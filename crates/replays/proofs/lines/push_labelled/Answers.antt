@@ -1,8 +1,7 @@
 use mathlib.Core.Path.{refl, ap, _∙_}
 use Rattle.std.specs.Of.Vec.{vec-items}
-use Rattle.std.specs.Written.{decimal}
 use Rattle.format.specs.Fields.{field-name}
-use Rattle.format.specs.Words.{field-of, value-of}
+use Rattle.format.specs.Words.{field-of}
 use Rattle.replays.proofs.Texts.{labelled}
 use Rattle.replays.proofs.lines.push_labelled.Needs as need
 
@@ -13,10 +12,9 @@ returns c =
     (c .args .label .now)
     (field-name (field-of (c .args .bits)))
     (c .args .sign .now)
-    (decimal (value-of (c .args .bits)))
-    (c .field-name .result .now)
+    (c .split-word .ensures .value)
     refl
     (c .in-Continue-extend-from-slice .ensures tt .items)
-    (c .field-name .ensures)
+    (c .field-name .ensures ∙ ap field-name (c .split-word .ensures .field))
     (c .in-Continue-extend-from-slice-2 .ensures tt .items)
     (c .in-Continue-push-number .ensures tt)

@@ -1,7 +1,5 @@
 use lib.Chars.{codes}
 use Rattle.std.specs.Of.Vec.{vec-items}
-use Rattle.std.specs.Written.{decimal}
-use Rattle.format.specs.Words.{value-of}
 use Rattle.replays.proofs.Texts.{nothing-behind}
 use Rattle.replays.proofs.lines.push_weight.Needs as need
 
@@ -10,5 +8,5 @@ returns c =
     nothing-behind
     (vec-items (c .args .out .now))
     (codes " at weight ")
-    (decimal (value-of (c .args .bits)))
+    (c .split .ensures .value)
     (c .in-Continue-push-number .ensures tt)
