@@ -1,13 +1,10 @@
 // Replays captured frames through a table and prints the record of what the switch would emit.
+use replays::Kind;
 use replays::replay;
 use std::env;
 use std::error::AnyError;
 use std::fs;
 use std::io::Write;
-use weights::Cost;
-use weights::CostWeights;
-use weights::Reach;
-use weights::ReachWeights;
 
 // The arguments are the kind of weights, the table's file and the frames' file.
 fn run(rt: &LibcRuntime) -> Result<(), AnyError> {
@@ -16,13 +13,14 @@ fn run(rt: &LibcRuntime) -> Result<(), AnyError> {
     let (Some(kind), Some(table), Some(frames)) = (args.next(), args.next(), args.next()) else {
         return Err("usage: replay KIND TABLE FRAMES".into());
     };
-    let table = fs::read(rt, table.as_str())?;
-    let frames = fs::read(rt, frames.as_str())?;
-    let record = match kind.as_str() {
-        "reach" => replay::<Reach>(rt.alloc(), &table, &frames)?,
-        "cost" => replay::<Cost>(rt.alloc(), &table, &frames)?,
+    let kind = match kind.as_str() {
+        "reach" => Kind::Reach,
+        "cost" => Kind::Cost,
         _ => return Err("the kind is reach or cost".into()),
     };
+    let table = fs::read(rt, table.as_str())?;
+    let frames = fs::read(rt, frames.as_str())?;
+    let record = replay(rt.alloc(), kind, &table, &frames)?;
     rt.stdout().write_all(&record)?;
     Ok(())
 }

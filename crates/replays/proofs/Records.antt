@@ -3,6 +3,9 @@ use mathlib.Core.Path.{_≡_, ap, sym, _∙_, subst}
 use mathlib.Core.List.{List, [], _++_}
 use Prim.Native.Nat.{ℕ, _*_}
 use lib.ListN.{length}
+use Rattle.std.specs.Results.{Cases}
+use Rattle.std.specs.declared.result.Result.{Result}
+use Rattle.std.specs.declared.result.Result.the-variants.{Ok, Err}
 use Rattle.faults.specs.Lines.{refused-line}
 use Rattle.faults.specs.Shows.{table-shown}
 use Rattle.faults.specs.declared.Shown.{Shown}
@@ -40,9 +43,23 @@ record-same o {table = table} {others = others} text e f r =
     in let Q : List ℕ → Type 0 = λ ws. Record o ws others text
     in subst Q e (subst P f r)
 
+pub case-ok :
+    {X Y : Type 0} (P : X → Type 0) (Q : Y → Type 0) {r : Result X Y} {x : X} → r ≡ Ok x → Cases r P Q → P x
+case-ok {X = X} {Y = Y} P Q e c =
+    let C : Result X Y → Type 0 = λ r. Cases r P Q in subst C e c
+
+pub case-err :
+    {X Y : Type 0} (P : X → Type 0) (Q : Y → Type 0) {r : Result X Y} {y : Y} → r ≡ Err y → Cases r P Q → Q y
+case-err {X = X} {Y = Y} P Q e c =
+    let C : Result X Y → Type 0 = λ r. Cases r P Q in subst C e c
+
+-- a table has the words that were checked, and they are legal
+abbrev pub Legal : Ops → List ℕ → List ℕ → Type 0
+Legal o table words = (table ≡ words) × LegalTable o words
+
 -- the place where a table is refused
 abbrev pub RefusedAt : Ops → List ℕ → TableFault → Type 0
-RefusedAt o ws (Illegal i) = Stops o ws i
+RefusedAt o ws fault = elim fault [ Illegal i ↦ Stops o ws i ]
 
 pub table-refused :
     (o : Ops) (table frames text : List ℕ) (fault : TableFault) →

@@ -11,10 +11,13 @@ use Rattle.faults.specs.Lines.{refused-line}
 use Rattle.format.specs.Fields.{fields}
 use Rattle.frames.specs.Frames.{FrameValues, frame-words}
 use Rattle.weights.specs.Weights.{Ops}
+use Rattle.weights.specs.Kinds.{reach-ops, cost-ops}
 use Rattle.tables.specs.Rows.{Row, LegalRows, table-words}
 use Rattle.tables.specs.Emits.{Sent, sent-words, Answer}
 use Rattle.tables.specs.Checking.{Stops}
 use Rattle.tables.specs.Forwards.{Refused}
+use Rattle.replays.specs.declared.Kind.{Kind}
+use Rattle.replays.specs.declared.Kind.the-variants.{Reach, Cost}
 use Rattle.replays.specs.Lines.{table-lines, frame-line, emit-line}
 
 -- an emitted frame has a weight word and a word for each field
@@ -53,3 +56,8 @@ pub data Record (o : Ops) (table frames : List ℕ) : List ℕ → Type 0 where
       FramesSaid o rows (length table * sent-width) frames text →
       Record o table frames (table-lines table ++ text)
   no-table : (place : ℕ) → Stops o table place → Record o table frames (refused-line (table-shown (Illegal place)))
+
+-- what the weights of a kind are
+abbrev pub kind-ops : Kind → Ops
+kind-ops Reach = reach-ops
+kind-ops Cost = cost-ops

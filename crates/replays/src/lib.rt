@@ -5,20 +5,24 @@ ghost use Prim.Native.Nat.{ℕ, _*_, min};
 ghost use lib.ListN.{length};
 ghost use Rattle.std.specs.Joined.{joined};
 ghost use Rattle.std.specs.Of.Vec.{vec-items};
+ghost use Rattle.std.specs.Results.{Cases};
 ghost use Rattle.std.specs.Vec.{made};
 ghost use Rattle.std.specs.shelf.Lists.{All};
+ghost use Rattle.faults.specs.declared.layers.TableFault.the-variants.{Illegal};
 ghost use Rattle.faults.specs.Lines.{refused-line};
 ghost use Rattle.format.specs.Fields.{fields};
+ghost use Rattle.tables.specs.Checking.{Stops};
 ghost use Rattle.tables.specs.Emits.{Sent, sent-words};
 ghost use Rattle.tables.specs.Rows.{Row, LegalRows, LegalTable, table-words};
 ghost use Rattle.replays.specs.Bytes.{words-of};
 ghost use Rattle.replays.specs.Lines.{emit-line, table-lines};
-ghost use Rattle.replays.specs.Replays.{sent-width, FrameSaid, FramesSaid, Record};
+ghost use Rattle.replays.specs.Replays.{sent-width, FrameSaid, FramesSaid, Record, kind-ops};
 
 mod lines;
 mod words;
 
 use faults::Shown;
+use faults::TableFault;
 use faults::refused_line;
 use format::FIELDS;
 use lines::push_line;
@@ -27,6 +31,10 @@ use std::alloc::AllocError;
 use std::alloc::Global;
 use tables::CheckedTable;
 use tables::check_table;
+use weights::Cost;
+use weights::CostWeights;
+use weights::Reach;
+use weights::ReachWeights;
 use weights::WeightKind;
 use words::read_words;
 
@@ -34,6 +42,13 @@ const WIDTH: usize = FIELDS as usize;
 
 // An emitted frame has a weight word and a word for each field.
 const SENT_WORDS: usize = 1 + WIDTH;
+
+// The kinds of weights that a table can have.
+#[derive(Clone, Copy)]
+pub enum Kind {
+    Reach,
+    Cost,
+}
 
 // Appends a line for each emitted frame.
 fn push_emitted(text: &mut Vec<u8>, words: &[u32]) -> Result<(), AllocError>
@@ -104,14 +119,25 @@ fn replayed<K: WeightKind>(heap: Global, table: &CheckedTable<'_, K>, words: &[u
     Ok(text)
 }
 
-// The record of frames that go through a table of the kind K, both as bytes.
-pub fn replay<K: WeightKind + Drop>(heap: Global, table: &[u8], frames: &[u8]) -> Result<Vec<u8>, AllocError>
-    ensures { λ r. ⌜ made r (λ v. Record (K·WeightKind .ops) (words-of (now (table .entry))) (words-of (now (frames .entry))) (vec-items v)) ⌝ }
+// The record of frames and a table, whose words these are, by what its check said.
+fn recorded<K: WeightKind + Drop>(heap: Global, checked: Result<CheckedTable<'_, K>, TableFault>, words: &[u32], frames: &[u32]) -> Result<Vec<u8>, AllocError>
+    requires { ⌜ Cases checked (λ t. (now (t .words) ≡ now words) × LegalTable (K·WeightKind .ops) (now words)) (λ e. elim e [ Illegal i ↦ Stops (K·WeightKind .ops) (now words) i ]) ⌝ }
+    ensures { λ r. ⌜ made r (λ v. Record (K·WeightKind .ops) (now (words .entry)) (now (frames .entry)) (vec-items v)) ⌝ }
+{
+    match checked {
+        Ok(table) => replayed(heap, &table, words, frames),
+        Err(fault) => refused_line(heap, fault.shown()),
+    }
+}
+
+// The record of frames that go through a table of a kind, both as bytes.
+pub fn replay(heap: Global, kind: Kind, table: &[u8], frames: &[u8]) -> Result<Vec<u8>, AllocError>
+    ensures { λ r. ⌜ made r (λ v. Record (kind-ops kind) (words-of (now (table .entry))) (words-of (now (frames .entry))) (vec-items v)) ⌝ }
 {
     let words = read_words(heap, table)?;
     let frame_words = read_words(heap, frames)?;
-    match check_table::<K>(&words) {
-        Ok(checked) => replayed(heap, &checked, &words, &frame_words),
-        Err(fault) => refused_line(heap, fault.shown()),
+    match kind {
+        Kind::Reach => recorded(heap, check_table::<Reach>(&words), &words, &frame_words),
+        Kind::Cost => recorded(heap, check_table::<Cost>(&words), &words, &frame_words),
     }
 }

@@ -1,7 +1,5 @@
-use mathlib.Core.Path.{_∙_, ap}
+use mathlib.Core.Path.{refl, _∙_, ap}
 use mathlib.Core.List.{_++_}
-use native.Mathlib.Omega.{arith}
-use Prim.Native.Nat.{_-_}
 use lib.ListN.{length}
 use Rattle.std.specs.Of.Vec.{vec-items}
 use Rattle.faults.specs.Lines.{refused-line}
@@ -26,12 +24,12 @@ returns-in-Ok g c =
       (c .args .memory .now)
       (c .forward .last .out)
       (c .in-Ok .count)
-      (c .in-Ok .count - 0)
+      (c .in-Ok .count)
       (vec-items (c .args .text .now))
       (vec-items (c .push-line .last .out))
       (vec-items (c .push-emitted .last .text))
       (c .in-Ok .ensures tt .exact rows legal e)
-      (omega arith)
+      refl
       (c .in-Continue-push-line .ensures tt)
       told)
     (c .push-emitted .ensures)

@@ -1,3 +1,4 @@
+use borrow.Author.Needs.{needs}
 use mathlib.Core.Path.{_≡_, sym, _∙_, ap}
 use mathlib.Core.List.{_++_}
 use lib.ListN.{length}
@@ -7,7 +8,7 @@ use Rattle.replays.proofs.Records.{recorded, table-checked}
 use Rattle.replays.proofs.replayed.Needs as need
 
 pub push-frames-requires : need.push-frames-requires
-push-frames-requires g c κs = table-checked (g .K·WeightKind .ops) (c .pre .1) (c .pre .0)
+push-frames-requires g c κs = (search needs, table-checked (g .K·WeightKind .ops) (c .pre .1) (c .pre .0))
 
 pub returns : need.returns
 returns g c =

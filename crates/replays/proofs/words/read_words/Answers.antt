@@ -4,6 +4,7 @@ use native.Mathlib.Omega.{arith}
 use Rattle.std.specs.Of.Vec.{vec-items}
 use Rattle.replays.proofs.Fours.{four-more, broken-last, none-left}
 use Rattle.replays.proofs.words.read_words.Needs as need
+use Rattle.replays.proofs.words.read_words.Needs.{then-at-bytes·in-Continue-push-2, else-at-bytes}
 
 pub loop-at-again : need.loop-at-again
 loop-at-again c =
@@ -18,4 +19,24 @@ loop-at-again c =
     )
 
 pub returns : need.returns
-returns c = ?last
+returns c =
+    elim (c .if-at-bytes .came)
+    [ then-at-bytes·in-Continue-push-2 w ↦
+      ap vec-items (w .words-is)
+      ∙ broken-last
+      (c .args .bytes .now)
+      (vec-items (c .loop-at .words))
+      (c .loop-at .at)
+      (w .if-at-bytes .taken)
+      (c .loop-at-test .left)
+      (c .loop-at .inv .1)
+      (w .in-Continue-push-2 .ensures tt .items)
+    | else-at-bytes w ↦
+      ap vec-items (w .words-is)
+      ∙ none-left
+      (c .args .bytes .now)
+      (vec-items (c .loop-at .words))
+      (c .loop-at .at)
+      (w .if-at-bytes .left)
+      (c .loop-at .inv .1)
+    ]
