@@ -44,9 +44,9 @@ pub told-more :
 told-more o rows room left words was mid is said some t frame e =
     let regroup = append-assoc was (t .before) said
     in let whole : (rest : List ℕ) → FramesSaid o rows room (drop fields left) rest → FramesSaid o rows room words ((t .before ++ said) ++ rest) =
-        λ rest f.
-        let P : List ℕ → Type 0 = λ text. FramesSaid o rows room words text
-        in subst P (sym (append-assoc (t .before) said rest)) (t .whole (said ++ rest) (FramesSaid.frame-first left said rest some frame f))
+    λ rest f.
+    let P : List ℕ → Type 0 = λ text. FramesSaid o rows room words text
+    in subst P (sym (append-assoc (t .before) said rest)) (t .whole (said ++ rest) (FramesSaid.frame-first left said rest some frame f))
     in record { before = t .before ++ said; text = e ∙ ap (λ m. m ++ said) (t .text) ∙ regroup; whole = whole }
 
 pub told-all :
@@ -119,10 +119,10 @@ frame-answered o rows room ws held holds count n was mid is a e f told =
     in let wide = answer-wide o rows (a .0) answer (a .1 .one-each) (w .right .sound)
     in let front : take n holds ≡ joined sent-words answer = ap (λ k. take k holds) e ∙ w .front
     in let regroup = append-assoc was (frame-line ws) (joined line answer)
-    in
-    ( frame-line ws ++ joined line answer
-    , FrameSaid.forwarded (a .0) answer (a .1) (a .2) (w .right)
-    , told answer wide front ∙ ap (λ m. m ++ joined line answer) f ∙ regroup
+    in (
+      frame-line ws ++ joined line answer,
+      FrameSaid.forwarded (a .0) answer (a .1) (a .2) (w .right),
+      told answer wide front ∙ ap (λ m. m ++ joined line answer) f ∙ regroup,
     )
 
 -- the frame and why it is refused

@@ -83,10 +83,10 @@ weight-in-table w e =
     sym
     (ap
     (λ k.
-      cond (eqb k 10) (head-said w)
-      (cond (eqb k 11) (setting (codes " if ") (codes "=") w)
-      (cond (eqb k 12) (weight-said w)
-      (cond (eqb k 13) (setting (codes " set ") (codes ":=") w) (cond (eqb k 14) (end-said w) (codes " ?"))))))
+    cond (eqb k 10) (head-said w)
+    (cond (eqb k 11) (setting (codes " if ") (codes "=") w)
+    (cond (eqb k 12) (weight-said w)
+    (cond (eqb k 13) (setting (codes " set ") (codes ":=") w) (cond (eqb k 14) (end-said w) (codes " ?"))))))
     e)
 
 pub weight-in-answer : (w : ℕ) → kind-of w ≡ 12 → weight-said w ≡ frame-word-said w
@@ -94,6 +94,6 @@ weight-in-answer w e =
     sym
     (ap
     (λ k.
-      cond (eqb k 9 && ltb (field-of w) fields) (setting (codes " ") (codes "=") w)
-      (cond (eqb k 12) (weight-said w) (codes " ?")))
+    cond (eqb k 9 && ltb (field-of w) fields) (setting (codes " ") (codes "=") w)
+    (cond (eqb k 12) (weight-said w) (codes " ?")))
     e)

@@ -59,8 +59,8 @@ answer-wide o rows s [] eight sound = tt
 answer-wide o rows s (x ∷ answer) eight sound =
     let here = sound x (inl refl)
     in let wide : length s ≡ length (x .frame) =
-        elim (ℕ-discrete (length s) (length (x .frame)))
-        [ yes e ↦ e | no n ↦ absurd (here .1 (sym (here .0) ∙ emits-other o rows s (x .frame) n)) ]
+    elim (ℕ-discrete (length s) (length (x .frame)))
+    [ yes e ↦ e | no n ↦ absurd (here .1 (sym (here .0) ∙ emits-other o rows s (x .frame) n)) ]
     in let w = words-length 0 (x .frame)
     in let nine : length (sent-words x) ≡ sent-width = ap suc (w ∙ sym wide ∙ eight)
     in (nine, answer-wide o rows s answer eight (λ y i. sound y (inr i)))

@@ -1,7 +1,7 @@
 -- The record of a replay, by what the table does with each frame.
 use mathlib.Core.Path.{_≡_}
 use mathlib.Core.List.{List, [], _∷_, _++_}
-use Prim.Native.Nat.{ℕ, _*_, _<_}
+use Prim.Native.Nat.{ℕ, _+_, _*_, _<_}
 use lib.ListN.{length, take, drop}
 use Rattle.std.specs.Joined.{joined}
 use Rattle.faults.specs.declared.layers.FrameFault.{FrameFault}
@@ -22,7 +22,7 @@ use Rattle.replays.specs.Lines.{table-lines, frame-line, emit-line}
 
 -- an emitted frame has a weight word and a word for each field
 abbrev pub sent-width : ℕ
-sent-width = 9
+sent-width = 1 + fields
 
 -- what is said of one frame, by its words: the frame and each emitted frame, or the frame and why it is refused
 pub data FrameSaid (o : Ops) (rows : List Row) (room : ℕ) (ws : List ℕ) : List ℕ → Type 0 where

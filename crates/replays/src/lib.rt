@@ -71,7 +71,13 @@ fn push_refusal(heap: Global, text: &mut Vec<u8>, shown: Shown) -> Result<(), Al
 }
 
 // Appends what becomes of one frame.
-fn push_frame<K: WeightKind>(heap: Global, text: &mut Vec<u8>, table: &CheckedTable<'_, K>, frame: &[u32], memory: &mut [u32]) -> Result<(), AllocError>
+fn push_frame<K: WeightKind>(
+    heap: Global,
+    text: &mut Vec<u8>,
+    table: &CheckedTable<'_, K>,
+    frame: &[u32],
+    memory: &mut [u32],
+) -> Result<(), AllocError>
     requires { ⌜ LegalTable (K·WeightKind .ops) (now (now table .words)) ⌝ }
     ensures { λ r. ⌜ made r (λ _. (rows : List Row) → LegalRows (K·WeightKind .ops) rows → now (now (table .entry) .words) ≡ table-words rows → ((said : List ℕ) × FrameSaid (K·WeightKind .ops) rows (length (now (memory .entry))) (now (frame .entry)) said × (vec-items (now (text .exit)) ≡ vec-items (now (text .entry)) ++ said))) ⌝ }
 {
@@ -90,7 +96,13 @@ fn frame_width(left: usize) -> usize
 }
 
 // Appends what becomes of each frame.
-fn push_frames<K: WeightKind>(heap: Global, text: &mut Vec<u8>, table: &CheckedTable<'_, K>, words: &[u32], memory: &mut [u32]) -> Result<(), AllocError>
+fn push_frames<K: WeightKind>(
+    heap: Global,
+    text: &mut Vec<u8>,
+    table: &CheckedTable<'_, K>,
+    words: &[u32],
+    memory: &mut [u32],
+) -> Result<(), AllocError>
     requires { ⌜ LegalTable (K·WeightKind .ops) (now (now table .words)) ⌝ }
     ensures { λ r. ⌜ made r (λ _. (rows : List Row) → LegalRows (K·WeightKind .ops) rows → now (now (table .entry) .words) ≡ table-words rows → ((said : List ℕ) × FramesSaid (K·WeightKind .ops) rows (length (now (memory .entry))) (now (words .entry)) said × (vec-items (now (text .exit)) ≡ vec-items (now (text .entry)) ++ said))) ⌝ }
 {
@@ -104,7 +116,12 @@ fn push_frames<K: WeightKind>(heap: Global, text: &mut Vec<u8>, table: &CheckedT
 }
 
 // The record of a checked table, whose words these are, and of frames.
-fn replayed<K: WeightKind>(heap: Global, table: &CheckedTable<'_, K>, words: &[u32], frames: &[u32]) -> Result<Vec<u8>, AllocError>
+fn replayed<K: WeightKind>(
+    heap: Global,
+    table: &CheckedTable<'_, K>,
+    words: &[u32],
+    frames: &[u32],
+) -> Result<Vec<u8>, AllocError>
     requires { ⌜ LegalTable (K·WeightKind .ops) (now words) ⌝ ∗ ⌜ now (now table .words) ≡ now words ⌝ }
     ensures { λ r. ⌜ made r (λ v. Record (K·WeightKind .ops) (now (words .entry)) (now (frames .entry)) (vec-items v)) ⌝ }
 {
@@ -120,7 +137,12 @@ fn replayed<K: WeightKind>(heap: Global, table: &CheckedTable<'_, K>, words: &[u
 }
 
 // The record of frames and a table, whose words these are, by what its check said.
-fn recorded<K: WeightKind + Drop>(heap: Global, checked: Result<CheckedTable<'_, K>, TableFault>, words: &[u32], frames: &[u32]) -> Result<Vec<u8>, AllocError>
+fn recorded<K: WeightKind + Drop>(
+    heap: Global,
+    checked: Result<CheckedTable<'_, K>, TableFault>,
+    words: &[u32],
+    frames: &[u32],
+) -> Result<Vec<u8>, AllocError>
     requires { ⌜ Cases checked (λ t. (now (t .words) ≡ now words) × LegalTable (K·WeightKind .ops) (now words)) (λ e. elim e [ Illegal i ↦ Stops (K·WeightKind .ops) (now words) i ]) ⌝ }
     ensures { λ r. ⌜ made r (λ v. Record (K·WeightKind .ops) (now (words .entry)) (now (frames .entry)) (vec-items v)) ⌝ }
 {

@@ -7,7 +7,6 @@ ghost use Rattle.std.specs.Of.Vec.{vec-items};
 ghost use Rattle.std.specs.Vec.{made};
 ghost use Rattle.std.specs.Written.{decimal};
 ghost use Rattle.replays.specs.Lines.{setting, head-said, end-said, weight-said, table-word-said, frame-word-said, table-lines, spaced-hex, words-line};
-
 use format::FIELDS;
 use format::Word;
 use format::field_name;

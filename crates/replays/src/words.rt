@@ -3,7 +3,6 @@ ghost use mathlib.Core.Path.{_≡_};
 ghost use Rattle.std.specs.Of.Vec.{vec-items};
 ghost use Rattle.std.specs.Vec.{made};
 ghost use Rattle.replays.specs.Bytes.{words-of};
-
 use format::KIND_UNIT;
 use std::alloc::AllocError;
 use std::alloc::Global;

@@ -7,9 +7,9 @@ use Rattle.replays.proofs.Emitted.{sent-more, sent-all}
 use Rattle.replays.proofs.push_emitted.Needs as need
 
 pub loop-at-again : need.loop-at-again
-loop-at-again c =
-    ( omega arith
-    , λ answer wide e.
+loop-at-again c = (
+  omega arith,
+  λ answer wide e.
       sent-more
       (c .args .words .now)
       (c .loop-at .at)
@@ -21,8 +21,8 @@ loop-at-again c =
       (omega arith)
       (omega arith)
       (c .loop-at .inv .1 answer wide e)
-      (c .in-Continue-push-line .ensures tt)
-    )
+      (c .in-Continue-push-line .ensures tt),
+)
 
 pub returns : need.returns
 returns c answer wide e =

@@ -14,9 +14,9 @@ abbrev pub Inv-loop-at : given.InvT-loop-at
 Inv-loop-at l =
     (l .at ≤ length (l .words))
     × ((answer : List Sent) →
-      All (λ x. length (sent-words x) ≡ sent-width) answer →
-      l .words ≡ joined sent-words answer →
-      Said (drop (l .at) (l .words)) answer (vec-items (l .entry .text)) (vec-items (l .text)))
+    All (λ x. length (sent-words x) ≡ sent-width) answer →
+    l .words ≡ joined sent-words answer →
+    Said (drop (l .at) (l .words)) answer (vec-items (l .entry .text)) (vec-items (l .text)))
 
 abbrev pub μ-loop-at : given.MeasureT-loop-at
 μ-loop-at l = length (l .words) - l .at

@@ -16,22 +16,22 @@ returns-in-Ok g c =
     made-then
     (c .push-emitted .result)
     (λ _ told rows legal e.
-      frame-answered
-      (g .K·WeightKind .ops)
-      rows
-      (length (c .args .memory .now))
-      (c .args .frame .now)
-      (c .args .memory .now)
-      (c .forward .last .out)
-      (c .in-Ok .count)
-      (c .in-Ok .count)
-      (vec-items (c .args .text .now))
-      (vec-items (c .push-line .last .out))
-      (vec-items (c .push-emitted .last .text))
-      (c .in-Ok .ensures tt .exact rows legal e)
-      refl
-      (c .in-Continue-push-line .ensures tt)
-      told)
+    frame-answered
+    (g .K·WeightKind .ops)
+    rows
+    (length (c .args .memory .now))
+    (c .args .frame .now)
+    (c .args .memory .now)
+    (c .forward .last .out)
+    (c .in-Ok .count)
+    (c .in-Ok .count)
+    (vec-items (c .args .text .now))
+    (vec-items (c .push-line .last .out))
+    (vec-items (c .push-emitted .last .text))
+    (c .in-Ok .ensures tt .exact rows legal e)
+    refl
+    (c .in-Continue-push-line .ensures tt)
+    told)
     (c .push-emitted .ensures)
 
 pub returns-in-Err : need.returns-in-Err
@@ -39,16 +39,16 @@ returns-in-Err g c =
     made-then
     (c .push-refusal .result)
     (λ _ said rows legal e.
-      frame-refused
-      (g .K·WeightKind .ops)
-      rows
-      (length (c .args .memory .now))
-      (c .args .frame .now)
-      (c .in-Err .fault)
-      (vec-items (c .args .text .now))
-      (vec-items (c .push-line .last .out))
-      (vec-items (c .push-refusal .last .text))
-      (c .in-Err .ensures tt .exact rows legal e)
-      (c .in-Continue-push-line .ensures tt)
-      (said ∙ ap (λ s. vec-items (c .push-line .last .out) ++ refused-line s) (c .shown .ensures)))
+    frame-refused
+    (g .K·WeightKind .ops)
+    rows
+    (length (c .args .memory .now))
+    (c .args .frame .now)
+    (c .in-Err .fault)
+    (vec-items (c .args .text .now))
+    (vec-items (c .push-line .last .out))
+    (vec-items (c .push-refusal .last .text))
+    (c .in-Err .ensures tt .exact rows legal e)
+    (c .in-Continue-push-line .ensures tt)
+    (said ∙ ap (λ s. vec-items (c .push-line .last .out) ++ refused-line s) (c .shown .ensures)))
     (c .push-refusal .ensures)

@@ -10,9 +10,9 @@ use Rattle.replays.proofs.Frames.{told-next, told-all}
 use Rattle.replays.proofs.push_frames.Needs as need
 
 pub loop-at-again : need.loop-at-again
-loop-at-again g c =
-    ( omega (arith, min-le-left (length (c .args .words .now) - c .loop-at .at) fields, c .frame-width-width .ensures)
-    , λ rows legal e.
+loop-at-again g c = (
+  omega (arith, min-le-left (length (c .args .words .now) - c .loop-at .at) fields, c .frame-width-width .ensures),
+  λ rows legal e.
       told-next
       (g .K·WeightKind .ops)
       rows
@@ -30,8 +30,8 @@ loop-at-again g c =
       (c .frame-width-width .ensures)
       (omega arith)
       (c .loop-at .inv .1 rows legal e)
-      (c .in-Continue-push-frame .ensures tt rows legal e)
-    )
+      (c .in-Continue-push-frame .ensures tt rows legal e),
+)
 
 pub returns : need.returns
 returns g c rows legal e =

@@ -12,9 +12,9 @@ abbrev pub Inv-loop-at : given.InvT-loop-at
 Inv-loop-at g l =
     (l .at ≤ length (l .words))
     × ((rows : List Row) →
-      LegalRows (g .K·WeightKind .ops) rows →
-      now (l .table .words) ≡ table-words rows →
-      Told (g .K·WeightKind .ops) rows (length (l .entry .memory)) (drop (l .at) (l .words)) (l .words) (vec-items (l .entry .text)) (vec-items (l .text)))
+    LegalRows (g .K·WeightKind .ops) rows →
+    now (l .table .words) ≡ table-words rows →
+    Told (g .K·WeightKind .ops) rows (length (l .entry .memory)) (drop (l .at) (l .words)) (l .words) (vec-items (l .entry .text)) (vec-items (l .text)))
 
 abbrev pub μ-loop-at : given.MeasureT-loop-at
 μ-loop-at g l = length (l .words) - l .at

@@ -18,12 +18,12 @@ returns-in-Err g c =
     in made-then
     (c .refused-line .result)
     (λ v said.
-      table-refused
-      o
-      (c .args .words .now)
-      (c .args .frames .now)
-      (vec-items v)
-      (c .in-Err .fault)
-      (case-err (λ t. Legal o (t .words .now) (c .args .words .now)) (RefusedAt o (c .args .words .now)) (c .in-Err .is) (c .pre))
-      (said ∙ ap refused-line (c .shown .ensures)))
+    table-refused
+    o
+    (c .args .words .now)
+    (c .args .frames .now)
+    (vec-items v)
+    (c .in-Err .fault)
+    (case-err (λ t. Legal o (t .words .now) (c .args .words .now)) (RefusedAt o (c .args .words .now)) (c .in-Err .is) (c .pre))
+    (said ∙ ap refused-line (c .shown .ensures)))
     (c .refused-line .ensures)
