@@ -1,2 +1,3 @@
 mod Digits
 pub mod Pieces
+pub mod Appended

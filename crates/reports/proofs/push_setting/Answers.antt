@@ -3,7 +3,7 @@ use Rattle.std.specs.Of.Vec.{vec-items}
 use Rattle.std.specs.Written.{decimal}
 use Rattle.format.specs.Fields.{field-name}
 use Rattle.numerals.proofs.Pieces.{three-pieces}
-use Rattle.reports.proofs.Appended.{renamed}
+use Rattle.numerals.proofs.Appended.{renamed}
 use Rattle.reports.proofs.push_setting.Needs as need
 
 pub returns : need.returns

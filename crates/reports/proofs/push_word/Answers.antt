@@ -6,7 +6,7 @@ use Rattle.format.specs.Words.{kind-of}
 use Rattle.numerals.specs.Numerals.{hex-word}
 use Rattle.numerals.proofs.Pieces.{six-pieces}
 use Rattle.reports.specs.Lines.{kind-name, details}
-use Rattle.reports.proofs.Appended.{renamed}
+use Rattle.numerals.proofs.Appended.{renamed}
 use Rattle.reports.proofs.push_word.Needs as need
 
 pub returns : need.returns

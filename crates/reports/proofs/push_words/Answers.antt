@@ -1,6 +1,6 @@
 use Rattle.std.specs.Of.Vec.{vec-items}
 use Rattle.reports.specs.Lines.{word-line}
-use Rattle.reports.proofs.Appended.{line-more, lines-all}
+use Rattle.numerals.proofs.Appended.{line-more, lines-all}
 use Rattle.reports.proofs.push_words.Needs as need
 
 pub loop-word-again : need.loop-word-again

@@ -1,0 +1,6 @@
+mod Texts
+mod Fours
+mod Emitted
+mod Widths
+mod Frames
+mod Records
