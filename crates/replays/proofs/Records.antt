@@ -15,7 +15,8 @@ use Rattle.weights.specs.Weights.{Ops}
 use Rattle.tables.specs.Checking.{Stops}
 use Rattle.tables.specs.Rows.{Row, LegalRows, LegalTable, table-words}
 use Rattle.replays.specs.Lines.{table-lines}
-use Rattle.replays.specs.Replays.{sent-width, FramesSaid, Record}
+use Rattle.tables.specs.Emits.{sent-length}
+use Rattle.replays.specs.Replays.{FramesSaid, Record}
 
 -- the table and then the frames
 pub recorded :
@@ -23,7 +24,7 @@ pub recorded :
     LegalRows o rows →
     table ≡ table-words rows →
     mid ≡ table-lines table →
-    room ≡ length table * sent-width →
+    room ≡ length table * sent-length →
     (said : List ℕ) × FramesSaid o rows room frames said × (is ≡ mid ++ said) →
     Record o table frames is
 recorded o rows table frames mid is room legal e f r t =

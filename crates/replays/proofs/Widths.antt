@@ -12,8 +12,7 @@ use Rattle.format.specs.Fields.{fields}
 use Rattle.frames.specs.Frames.{words-from, frame-words}
 use Rattle.weights.specs.Weights.{Ops}
 use Rattle.tables.specs.Rows.{Pair, Emission, Row}
-use Rattle.tables.specs.Emits.{Sent, sent-words, replaced, same, joins, holds, emits, In, Answer}
-use Rattle.replays.specs.Replays.{sent-width}
+use Rattle.tables.specs.Emits.{Sent, sent-length, sent-words, replaced, same, joins, holds, emits, In, Answer}
 
 replaced-length : (ps : List Pair) (s : List ℕ) → length (replaced ps s) ≡ length s
 replaced-length [] s = refl
@@ -54,7 +53,7 @@ pub answer-wide :
     (o : Ops) (rows : List Row) (s : List ℕ) (answer : List Sent) →
     length s ≡ fields →
     ((x : Sent) → In x answer → (emits o rows s (x .frame) ≡ x .weight) × (x .weight ≡ o .zero → ⊥)) →
-    All (λ x. length (sent-words x) ≡ sent-width) answer
+    All (λ x. length (sent-words x) ≡ sent-length) answer
 answer-wide o rows s [] eight sound = tt
 answer-wide o rows s (x ∷ answer) eight sound =
     let here = sound x (inl refl)
@@ -62,5 +61,5 @@ answer-wide o rows s (x ∷ answer) eight sound =
     elim (ℕ-discrete (length s) (length (x .frame)))
     [ yes e ↦ e | no n ↦ absurd (here .1 (sym (here .0) ∙ emits-other o rows s (x .frame) n)) ]
     in let w = words-length 0 (x .frame)
-    in let nine : length (sent-words x) ≡ sent-width = ap suc (w ∙ sym wide ∙ eight)
+    in let nine : length (sent-words x) ≡ sent-length = ap suc (w ∙ sym wide ∙ eight)
     in (nine, answer-wide o rows s answer eight (λ y i. sound y (inr i)))

@@ -1,7 +1,7 @@
 -- The record of a replay, by what the table does with each frame.
 use mathlib.Core.Path.{_≡_}
 use mathlib.Core.List.{List, [], _∷_, _++_}
-use Prim.Native.Nat.{ℕ, _+_, _*_, _<_}
+use Prim.Native.Nat.{ℕ, _*_, _<_}
 use lib.ListN.{length, take, drop}
 use Rattle.std.specs.Joined.{joined}
 use Rattle.faults.specs.declared.layers.FrameFault.{FrameFault}
@@ -13,16 +13,12 @@ use Rattle.frames.specs.Frames.{FrameValues, frame-words}
 use Rattle.weights.specs.Weights.{Ops}
 use Rattle.weights.specs.Kinds.{reach-ops, cost-ops}
 use Rattle.tables.specs.Rows.{Row, LegalRows, table-words}
-use Rattle.tables.specs.Emits.{Sent, sent-words, Answer}
+use Rattle.tables.specs.Emits.{Sent, sent-length, sent-words, Answer}
 use Rattle.tables.specs.Checking.{Stops}
 use Rattle.tables.specs.Forwards.{Refused}
 use Rattle.replays.specs.declared.Kind.{Kind}
 use Rattle.replays.specs.declared.Kind.the-variants.{Reach, Cost}
 use Rattle.replays.specs.Lines.{table-lines, frame-line, emit-line}
-
--- an emitted frame has a weight word and a word for each field
-abbrev pub sent-width : ℕ
-sent-width = 1 + fields
 
 -- what is said of one frame, by its words: the frame and each emitted frame, or the frame and why it is refused
 pub data FrameSaid (o : Ops) (rows : List Row) (room : ℕ) (ws : List ℕ) : List ℕ → Type 0 where
@@ -53,7 +49,7 @@ pub data Record (o : Ops) (table frames : List ℕ) : List ℕ → Type 0 where
       (rows : List Row) (text : List ℕ) →
       LegalRows o rows →
       table ≡ table-words rows →
-      FramesSaid o rows (length table * sent-width) frames text →
+      FramesSaid o rows (length table * sent-length) frames text →
       Record o table frames (table-lines table ++ text)
   no-table : (place : ℕ) → Stops o table place → Record o table frames (refused-line (table-shown (Illegal place)))
 

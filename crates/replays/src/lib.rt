@@ -12,11 +12,11 @@ ghost use Rattle.faults.specs.declared.layers.TableFault.the-variants.{Illegal}
 ghost use Rattle.faults.specs.Lines.{refused-line};
 ghost use Rattle.format.specs.Fields.{fields};
 ghost use Rattle.tables.specs.Checking.{Stops};
-ghost use Rattle.tables.specs.Emits.{Sent, sent-words};
+ghost use Rattle.tables.specs.Emits.{Sent, sent-length, sent-words};
 ghost use Rattle.tables.specs.Rows.{Row, LegalRows, LegalTable, table-words};
 ghost use Rattle.replays.specs.Bytes.{words-of};
 ghost use Rattle.replays.specs.Lines.{emit-line, table-lines};
-ghost use Rattle.replays.specs.Replays.{sent-width, FrameSaid, FramesSaid, Record, kind-ops};
+ghost use Rattle.replays.specs.Replays.{FrameSaid, FramesSaid, Record, kind-ops};
 
 mod lines;
 mod words;
@@ -52,7 +52,7 @@ pub enum Kind {
 
 // Appends a line for each emitted frame.
 fn push_emitted(text: &mut Vec<u8>, words: &[u32]) -> Result<(), AllocError>
-    ensures { λ r. ⌜ made r (λ _. (answer : List Sent) → All (λ x. length (sent-words x) ≡ sent-width) answer → now (words .entry) ≡ joined sent-words answer → vec-items (now (text .exit)) ≡ vec-items (now (text .entry)) ++ joined (λ x. emit-line (sent-words x)) answer) ⌝ }
+    ensures { λ r. ⌜ made r (λ _. (answer : List Sent) → All (λ x. length (sent-words x) ≡ sent-length) answer → now (words .entry) ≡ joined sent-words answer → vec-items (now (text .exit)) ≡ vec-items (now (text .entry)) ++ joined (λ x. emit-line (sent-words x)) answer) ⌝ }
 {
     let mut at = 0;
     while words.len() - at >= SENT_WORDS {

@@ -2,7 +2,7 @@ use mathlib.Core.Path.{_≡_}
 use native.Mathlib.Omega.{arith}
 use Prim.Native.Nat.{_+_, _-_}
 use Rattle.std.specs.Of.Vec.{vec-items}
-use Rattle.replays.specs.Replays.{sent-width}
+use Rattle.tables.specs.Emits.{sent-length}
 use Rattle.replays.proofs.Emitted.{sent-more, sent-all}
 use Rattle.replays.proofs.push_emitted.Needs as need
 
@@ -13,7 +13,7 @@ loop-at-again c = (
       sent-more
       (c .args .words .now)
       (c .loop-at .at)
-      ((c .loop-at .at + sent-width) - c .loop-at .at)
+      ((c .loop-at .at + sent-length) - c .loop-at .at)
       answer
       (vec-items (c .args .text .now))
       (vec-items (c .loop-at .text))

@@ -5,8 +5,7 @@ use lib.ListN.{length, drop}
 use Rattle.std.specs.Joined.{joined}
 use Rattle.std.specs.Of.Vec.{vec-items}
 use Rattle.std.specs.shelf.Lists.{All}
-use Rattle.tables.specs.Emits.{Sent, sent-words}
-use Rattle.replays.specs.Replays.{sent-width}
+use Rattle.tables.specs.Emits.{Sent, sent-length, sent-words}
 use Rattle.replays.proofs.Emitted.{Said}
 use Rattle.replays.proofs.push_emitted.Given as given
 
@@ -14,7 +13,7 @@ abbrev pub Inv-loop-at : given.InvT-loop-at
 Inv-loop-at l =
     (l .at ≤ length (l .words))
     × ((answer : List Sent) →
-    All (λ x. length (sent-words x) ≡ sent-width) answer →
+    All (λ x. length (sent-words x) ≡ sent-length) answer →
     l .words ≡ joined sent-words answer →
     Said (drop (l .at) (l .words)) answer (vec-items (l .entry .text)) (vec-items (l .text)))
 
