@@ -70,7 +70,23 @@ fn repeated(
 }
 
 // Texts with their words.
-const ACCEPTED: [Accepted; 16] = [
+const ACCEPTED: [Accepted; 20] = [
+    Accepted {
+        text: b"!pt:=3",
+        words: &[0x3100_0003, 0x5000_0000],
+    },
+    Accepted {
+        text: b"cost5",
+        words: &[0x4000_0005],
+    },
+    Accepted {
+        text: b"cost 65536",
+        words: &[0x4001_0000],
+    },
+    Accepted {
+        text: b"!pass*",
+        words: &[0x1000_0000, 0x5000_0000, 0x8000_0000],
+    },
     Accepted {
         text: b"pt=1;pt:=2",
         words: &[0x2100_0001, 0x3100_0002, 0x7000_0000],
