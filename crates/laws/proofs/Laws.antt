@@ -19,7 +19,7 @@ use Rattle.meaning.proofs.Canonical.{canonical, same-weights-same}
 use Rattle.meaning.proofs.Joining.{Joined, joined, Chosen, chosen}
 use Rattle.meaning.proofs.Sequencing.{Prefixed, prefixed, Sequenced, sequenced}
 use Rattle.meaning.proofs.Simple.{Negated, negated}
-use Rattle.meaning.proofs.Starring.{sequence-lub, star-means, round-good, enough-rounds, star-ends}
+use Rattle.meaning.proofs.Starring.{sequence-lub, star-means, round-good, rounds-end}
 use Rattle.meaning.proofs.Compiling.{means-alike, Compiled, compiled, compiles, compiles-once, named-in-either, uses-first, uses-second, spare-either}
 use Rattle.laws.specs.Claims.{Sound, OneMeaning, Narrowed, NarrowKeeps, Made, MakeKeeps, Canonical, JoinIsUnion, Chooses, ChooseIsChoice, PrefixGoesBefore, SequenceIsSequence, NegateIsNot, Stars, StarEnds, DiagramOf, DiagramsGiveMeanings, SameMeaning, SameExactly, DiagramsDecide}
 
@@ -31,7 +31,7 @@ pub diagrams-give-meanings : DiagramsGiveMeanings
 diagrams-give-meanings o L p h = (d .0, record { compiles = d .1; only-one = λ e c. compiles-once o p (d .0) e (d .1) c; formed = D .formed; means = D .means })
   where
     d : (e : Diagram) × Compiles o p e
-    d = compiles (named-in-either p p) L (spare-either p p (h .short) (h .short)) p (h .legal) (uses-first p p)
+    d = compiles (named-in-either p p) L p (h .legal) (uses-first p p)
 
     D : Compiled o (named-in-either p p) p (d .0)
     D = of-policy L p p h (d .0) (d .1)
@@ -97,8 +97,8 @@ negate-is-not o L p h k d c = (N .formed, λ s t x y. N .weighs s t (x .all-fiel
     N = negated L d (D .formed) (D .plain k)
 
 pub the-rounds-end : StarEnds
-the-rounds-end o L names w d p q =
-    record { ends = (enough-rounds names L d p q, star-ends names L d p q w); formed = λ k. round-good L d p k; star = λ k e. star-means L d p k e }
+the-rounds-end o L d p =
+    record { ends = rounds-end L d p; formed = λ k. round-good L d p k; star = λ k e. star-means L d p k e }
 
 pub diagrams-decide : DiagramsDecide
 diagrams-decide o L p q h k d e c c′ =

@@ -139,15 +139,7 @@ pub record Stars (o : Ops) (d : Diagram) : Type 0 where
   pub star : (k : ℕ) → round o d k ≡ round o d (suc k) → IsStar o (weigh o d) (weigh o (round o d k))
 
 abbrev pub StarEnds : Type 0
-StarEnds =
-    (o : Ops) →
-    Laws o →
-    (names : ℕ → List ℕ) →
-    Spare names →
-    (d : Diagram) →
-    Formed o d →
-    Named names d →
-    Stars o d
+StarEnds = (o : Ops) → Laws o → (d : Diagram) → Formed o d → Stars o d
 
 -- the one diagram of the policy is formed and gives what the policy means
 pub record DiagramOf (o : Ops) (p : Policy) (d : Diagram) : Type 0 where

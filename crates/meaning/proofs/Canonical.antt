@@ -68,9 +68,10 @@ apply-in-range a s h k =
     go f None p q = q
     go f (Some n) p q = p
 
-module _ (names : ℕ → List ℕ) (enough : Spare names) where
+-- for each field fewer names than the bound
+module _ (names : ℕ → List ℕ) (bound : ℕ → ℕ) (enough : (f : ℕ) → f < fields → length (names f) < bound f) where
   fresh-value : (f : ℕ) → Dec (f < fields) → ℕ
-  fresh-value f (yes l) = spare (range f) (names f) (enough f l) .0
+  fresh-value f (yes l) = spare (bound f) (names f) (enough f l) .0
   fresh-value f (no l) = 0
 
   fresh-frame : Frame
@@ -80,12 +81,12 @@ module _ (names : ℕ → List ℕ) (enough : Spare names) where
   unfolding fresh-frame
   fresh-long = length-listed fields (λ f. fresh-value f (decLt f fields))
 
-  fresh-there : (f : ℕ) → f < fields → (LegalValue f (getD fresh-frame f 0)) × (In (getD fresh-frame f 0) (names f) → ⊥)
+  fresh-there : (f : ℕ) → f < fields → (getD fresh-frame f 0 < bound f) × (In (getD fresh-frame f 0) (names f) → ⊥)
   unfolding fresh-frame fresh-value
-  fresh-there f l = subst (λ (v : ℕ). LegalValue f v × (In v (names f) → ⊥)) (sym (getD-listed fields (λ g. fresh-value g (decLt g fields)) f l)) (go (decLt f fields))
+  fresh-there f l = subst (λ (v : ℕ). (v < bound f) × (In v (names f) → ⊥)) (sym (getD-listed fields (λ g. fresh-value g (decLt g fields)) f l)) (go (decLt f fields))
     where
-      go : (d : Dec (f < fields)) → LegalValue f (fresh-value f d) × (In (fresh-value f d) (names f) → ⊥)
-      go (yes k) = (spare (range f) (names f) (enough f k) .1, spare (range f) (names f) (enough f k) .2)
+      go : (d : Dec (f < fields)) → (fresh-value f d < bound f) × (In (fresh-value f d) (names f) → ⊥)
+      go (yes k) = (spare (bound f) (names f) (enough f k) .1, spare (bound f) (names f) (enough f k) .2)
       go (no k) = absurd (k l)
 
   module _ {o : Ops} (L : Laws o) where
@@ -98,36 +99,57 @@ module _ (names : ℕ → List ℕ) (enough : Spare names) where
         one : (f n : ℕ) → In n (names f) → f < fields → getD fresh-frame f 0 ≡ n → ⊥
         one f n i l e = fresh-there f l .1 (subst (λ (v : ℕ). In v (names f)) (sym e) i)
 
-    pub canonical : (d e : Diagram) → Formed o d → Formed o e → Named names d → Named names e → d ≢ e → ToldApart o d e
-    canonical d e p q i j h =
-        record {
-          arriving = T .s;
-          leaving = apply (T .action) (T .s);
-          arriving-in-range = in-range;
-          leaving-in-range = apply-in-range (T .action) (T .s) (T .action-formed) in-range;
-          differ = T .differ;
-        }
+    told : (d e : Diagram) → Formed o d → Formed o e → Named names d → Named names e → d ≢ e → Told o fresh-frame d e
+    told d e p q i j h = tell L (extent d + extent e) d e fresh-frame (self (extent d + extent e)) p q fresh-long (fresh-for d p i) (fresh-for e q j) h
       where
-        T : Told o fresh-frame d e
-        T = tell L (extent d + extent e) d e fresh-frame (self (extent d + extent e)) p q fresh-long (fresh-for d p i) (fresh-for e q j) h
-          where
-            self : (n : ℕ) → n ≤ n
-            self n = omega arith
+        self : (n : ℕ) → n ≤ n
+        self n = omega arith
 
-        in-range : InRange (T .s)
-        in-range =
-            record {
-              all-fields = T .long;
-              legal = T .near LegalValue (λ f l. fresh-there f l .0) (tests-map _ _ (λ f n k. k .1) d (formed-tests-legal o d p)) (tests-map _ _ (λ f n k. k .1) e (formed-tests-legal o e q));
-            }
+module _ (names : ℕ → List ℕ) (enough : Spare names) {o : Ops} (L : Laws o) where
+  pub canonical : (d e : Diagram) → Formed o d → Formed o e → Named names d → Named names e → d ≢ e → ToldApart o d e
+  canonical d e p q i j h =
+      record {
+        arriving = T .s;
+        leaving = apply (T .action) (T .s);
+        arriving-in-range = in-range;
+        leaving-in-range = apply-in-range (T .action) (T .s) (T .action-formed) in-range;
+        differ = T .differ;
+      }
+    where
+      T : Told o (fresh-frame names range enough) d e
+      T = told names range enough L d e p q i j h
 
-    -- formed diagrams that give equal weights to all frames in range are the same
-    pub same-weights-same : (d e : Diagram) → Formed o d → Formed o e → Named names d → Named names e → ((s t : Frame) → InRange s → InRange t → weigh o d s t ≡ weigh o e s t) → d ≡ e
-    same-weights-same d e p q i j h = go (equal-diagrams d e)
+      in-range : InRange (T .s)
+      in-range =
+          record {
+            all-fields = T .long;
+            legal = T .near LegalValue (λ f l. fresh-there names range enough f l .0) (tests-map _ _ (λ f n k. k .1) d (formed-tests-legal o d p)) (tests-map _ _ (λ f n k. k .1) e (formed-tests-legal o e q));
+          }
+
+  -- formed diagrams that give equal weights to all frames in range are the same
+  pub same-weights-same : (d e : Diagram) → Formed o d → Formed o e → Named names d → Named names e → ((s t : Frame) → InRange s → InRange t → weigh o d s t ≡ weigh o e s t) → d ≡ e
+  same-weights-same d e p q i j h = go (equal-diagrams d e)
+    where
+      go : Dec (d ≡ e) → d ≡ e
+      go (yes r) = r
+      go (no r) = absurd (T .differ (h (T .arriving) (T .leaving) (T .arriving-in-range) (T .leaving-in-range)))
+        where
+          T : ToldApart o d e
+          T = canonical d e p q i j r
+
+-- formed diagrams that give equal weights to all frames, in range or not, are the same
+pub same-weights-everywhere : (names : ℕ → List ℕ) {o : Ops} → Laws o → (d e : Diagram) → Formed o d → Formed o e → Named names d → Named names e → ((s t : Frame) → length s ≡ fields → weigh o d s t ≡ weigh o e s t) → d ≡ e
+same-weights-everywhere names {o} L d e p q i j h = go (equal-diagrams d e)
+  where
+    more : (n : ℕ) → n < suc n
+    more n = omega arith
+
+    enough : (f : ℕ) → f < fields → length (names f) < suc (length (names f))
+    enough f l = more (length (names f))
+
+    go : Dec (d ≡ e) → d ≡ e
+    go (yes r) = r
+    go (no r) = absurd (T .differ (h (T .s) (apply (T .action) (T .s)) (T .long)))
       where
-        go : Dec (d ≡ e) → d ≡ e
-        go (yes r) = r
-        go (no r) = absurd (T .differ (h (T .arriving) (T .leaving) (T .arriving-in-range) (T .leaving-in-range)))
-          where
-            T : ToldApart o d e
-            T = canonical d e p q i j r
+        T : Told o (fresh-frame names (λ f. suc (length (names f))) enough) d e
+        T = told names (λ f. suc (length (names f))) enough L d e p q i j r

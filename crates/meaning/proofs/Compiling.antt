@@ -24,7 +24,7 @@ use Rattle.meaning.proofs.Narrowing.{cells-map, formed-weighted, weigh-weight}
 use Rattle.meaning.proofs.Joining.{Joined, joined}
 use Rattle.meaning.proofs.Sequencing.{sets-closed, Sequenced, sequenced}
 use Rattle.meaning.proofs.Simple.{keep-formed, keep-sets, set-formed, set-sets, apply-keep, apply-set, single-cells, single-formed, single-weighs, pass-formed, pass-weighs, drop-is-formed, test-formed, test-weighs, Plain, plain-closed, plain-single, Negated, negated}
-use Rattle.meaning.proofs.Starring.{sequence-lub, star-means, round-good, round-named, enough-rounds, star-ends}
+use Rattle.meaning.proofs.Starring.{sequence-lub, star-means, round-good, round-named, rounds-end}
 
 -- meanings are unique
 
@@ -148,22 +148,22 @@ module _ (names : ℕ → List ℕ) {o : Ops} (L : Laws o) where
             means = (weigh o e, E .means, star-means L e (E .formed) k same);
           }
 
-  pub compiles : Spare names → (p : Policy) → Legal p → Uses names p → (d : Diagram) × Compiles o p d
-  compiles w Drop l u = (_, drops)
-  compiles w Pass l u = (_, passes)
-  compiles w (Test f n) l u = (_, tests f n)
-  compiles w (Set f n) l u = (_, sets f n)
-  compiles w (Cost n) l u = (_, costs n)
-  compiles w (Not p) l u = (_, nots (compiles w p (l .1) u .1))
-  compiles w (Union p q) l u = (_, unions (compiles w p (l .0) (u .0) .1) (compiles w q (l .1) (u .1) .1))
-  compiles w (Sequence p q) l u = (_, sequences (compiles w p (l .0) (u .0) .1) (compiles w q (l .1) (u .1) .1))
-  compiles w (Star p) l u = go (compiles w p l u)
+  pub compiles : (p : Policy) → Legal p → Uses names p → (d : Diagram) × Compiles o p d
+  compiles Drop l u = (_, drops)
+  compiles Pass l u = (_, passes)
+  compiles (Test f n) l u = (_, tests f n)
+  compiles (Set f n) l u = (_, sets f n)
+  compiles (Cost n) l u = (_, costs n)
+  compiles (Not p) l u = (_, nots (compiles p (l .1) u .1))
+  compiles (Union p q) l u = (_, unions (compiles p (l .0) (u .0) .1) (compiles q (l .1) (u .1) .1))
+  compiles (Sequence p q) l u = (_, sequences (compiles p (l .0) (u .0) .1) (compiles q (l .1) (u .1) .1))
+  compiles (Star p) l u = go (compiles p l u)
     where
       go : (d : Diagram) × Compiles o p d → (d : Diagram) × Compiles o (Star p) d
-      go (d, c) = (_, stars (enough-rounds names L d (E .formed) (E .named)) c (star-ends names L d (E .formed) (E .named) w))
+      go (d, c) = (_, stars (R .0) c (R .1))
         where
-          E : Compiled o names p d
-          E = compiled p d c l u
+          R : (k : ℕ) × (round o d k ≡ round o d (suc k))
+          R = rounds-end L d (compiled p d c l u .formed)
 
 -- after a round that repeats, all rounds are the same
 rounds-same : (o : Ops) (d : Diagram) (k j : ℕ) → round o d k ≡ round o d (suc k) → round o d (k + j) ≡ round o d k

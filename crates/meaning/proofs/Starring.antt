@@ -20,11 +20,11 @@ use Rattle.meaning.specs.Decide.{choice, decide, equal-lists}
 use Rattle.meaning.specs.Leaves.{Action, Frame, Cell, Each, gather, ActionFormed, CellFormed, LeafFormed}
 use Rattle.meaning.specs.Diagrams.{Diagram, Leaf, Node, reach, emits, weigh, Tests, SetsOf, Cells, Sets, Formed}
 use Rattle.meaning.specs.Constructions.{join, sequence, pass-diagram, round}
-use Rattle.meaning.specs.Frames.{InRange, Spare, Named}
+use Rattle.meaning.specs.Frames.{InRange, Named}
 use Rattle.meaning.specs.Meanings.{Meaning, Everywhere, only, IsPass, IsSequence, IsCopies, IsStar}
 use Rattle.meaning.proofs.Gathering.{choice-yes, choice-no, choice-both, each-map}
-use Rattle.meaning.proofs.Narrowing.{Weighted, formed-weighted, weigh-weight, emits-additive, reach-weights}
-use Rattle.meaning.proofs.Canonical.{getD-apply, apply-in-range, same-weights-same}
+use Rattle.meaning.proofs.Narrowing.{Weighted, formed-weighted, weigh-weight, emits-additive, reach-weights, none-some, tests-map, cells-map}
+use Rattle.meaning.proofs.Canonical.{getD-apply, apply-in-range, same-weights-everywhere}
 use Rattle.meaning.proofs.Joining.{Joined, joined}
 use Rattle.meaning.proofs.Sequencing.{sets-closed, Sequenced, sequenced}
 use Rattle.meaning.proofs.Simple.{keep-sets, single-cells, pass-formed, pass-weighs}
@@ -333,13 +333,13 @@ module _ (names : ℕ → List ℕ) {o : Ops} (L : Laws o) (d : Diagram) (hd : F
   enough-rounds = length (frames-among fields (λ f. 0 ∷ names f))
 
   -- the rounds end
-  pub star-ends : Spare names → round o d enough-rounds ≡ round o d (suc enough-rounds)
+  pub star-ends : round o d enough-rounds ≡ round o d (suc enough-rounds)
   unfolding enough-rounds
-  star-ends enough =
-      same-weights-same names enough L (round o d K) (round o d (suc K)) (round-good L d hd K) (round-good L d hd (suc K)) (round-named K) (round-named (suc K)) (λ s t p q.
-      round-weighs L d hd K s t (p .all-fields)
-      ∙ sym (rounds L (same L d hd) (step L d hd) (weighed L d hd) K .ends s (frames-among fields (λ f. getD s f 0 ∷ names f)) (λ n x c v h. inr (met s (p .all-fields) x (near-walked s (p .all-fields) n x c v))) (few s) t)
-      ∙ sym (round-weighs L d hd (suc K) s t (p .all-fields)))
+  star-ends =
+      same-weights-everywhere names L (round o d K) (round o d (suc K)) (round-good L d hd K) (round-good L d hd (suc K)) (round-named K) (round-named (suc K)) (λ s t e.
+      round-weighs L d hd K s t e
+      ∙ sym (rounds L (same L d hd) (step L d hd) (weighed L d hd) K .ends s (frames-among fields (λ f. getD s f 0 ∷ names f)) (λ n x c v h. inr (met s e x (near-walked s e n x c v))) (few s) t)
+      ∙ sym (round-weighs L d hd (suc K) s t e))
     where
       K : ℕ
       K = length (frames-among fields (λ f. 0 ∷ names f))
@@ -352,3 +352,55 @@ module _ (names : ℕ → List ℕ) {o : Ops} (L : Laws o) (d : Diagram) (hd : F
         where
           bound : {a b : ℕ} → a ≡ b → a ≤ b
           bound r = omega arith
+
+-- the values that a diagram tests or sets
+
+abbrev set-values : Action → List ℕ
+set-values [] = []
+set-values (None ∷ a) = set-values a
+set-values (Some n ∷ a) = n ∷ set-values a
+
+abbrev cell-values : List Cell → List ℕ
+cell-values [] = []
+cell-values (c ∷ l) = set-values (c .0) ++ cell-values l
+
+abbrev pub values : Diagram → List ℕ
+values (Leaf l) = cell-values l
+values (Node f n y z) = n ∷ (values y ++ values z)
+
+in-set-values : (a : Action) → SetsOf (λ f n. In n (set-values a)) a
+in-set-values [] f n e = none-some n e
+in-set-values (None ∷ a) zero n e = none-some n e
+in-set-values (None ∷ a) (suc f) n e = in-set-values a f n e
+in-set-values (Some m ∷ a) zero n e = inl (sym (cc))
+in-set-values (Some m ∷ a) (suc f) n e = inr (in-set-values a f n e)
+
+in-cell-values : (l : List Cell) → Each (λ c. SetsOf (λ f n. In n (cell-values l)) (c .0)) l
+in-cell-values [] = tt
+in-cell-values (c ∷ l) = (
+  λ f n e. in-append-left n (set-values (c .0)) (cell-values l) (in-set-values (c .0) f n e),
+  each-map (λ b k f n e. in-append-right n (set-values (c .0)) (cell-values l) (k f n e)) l (in-cell-values l),
+)
+
+values-tests : (d : Diagram) → Tests (λ f n. In n (values d)) d
+values-tests (Leaf l) = tt
+values-tests (Node g m y z) = (
+  inl refl,
+  tests-map _ _ (λ f n i. inr (in-append-left n (values y) (values z) i)) y (values-tests y),
+  tests-map _ _ (λ f n i. inr (in-append-right n (values y) (values z) i)) z (values-tests z),
+)
+
+values-sets : (d : Diagram) → Sets (λ f n. In n (values d)) d
+values-sets (Leaf l) = in-cell-values l
+values-sets (Node g m y z) = (
+  cells-map _ _ (λ c k f n e. inr (in-append-left n (values y) (values z) (k f n e))) y (values-sets y),
+  cells-map _ _ (λ c k f n e. inr (in-append-right n (values y) (values z) (k f n e))) z (values-sets z),
+)
+
+-- a diagram's values are names for it
+pub named-by-values : (d : Diagram) → Named (λ f. values d) d
+named-by-values d = record { tests = values-tests d; sets = values-sets d }
+
+-- the rounds of every well-formed diagram end
+pub rounds-end : {o : Ops} → Laws o → (d : Diagram) → Formed o d → (k : ℕ) × (round o d k ≡ round o d (suc k))
+rounds-end L d hd = (enough-rounds (λ f. values d) L d hd (named-by-values d), star-ends (λ f. values d) L d hd (named-by-values d))

@@ -1,13 +1,13 @@
 -- The claims, each from the rules and from what is worked out. Assumes nothing.
 use mathlib.Core.Path.{_≡_, sym}
 use mathlib.Core.List.{List}
-use Prim.Native.Nat.{ℕ}
+use Prim.Native.Nat.{ℕ, suc}
 use Rattle.weights.specs.Weights.{Ops, Laws}
 use Rattle.weights.specs.Order.{In}
 use Rattle.meaning.specs.Diagrams.{Diagram}
-use Rattle.meaning.specs.Constructions.{Compiles}
-use Rattle.meaning.proofs.Starring.{enough-rounds, star-ends}
-use Rattle.meaning.proofs.Compiling.{compiles, named-in-either, uses-first, spare-either}
+use Rattle.meaning.specs.Constructions.{round, Compiles}
+use Rattle.meaning.proofs.Starring.{rounds-end}
+use Rattle.meaning.proofs.Compiling.{compiles, named-in-either, uses-first}
 use Rattle.requests.specs.Requests.{Request}
 use Rattle.requests.specs.Rules.{Narrows, Makes, Joins, Chooses, Prefixes, Sequences, Negates, Stars, Compiled}
 use Rattle.requests.specs.Claims.{Construction, AtMostOne, AtLeastOne, RulesAgree, RulesCover, SomeAnswer, NothingMissing, RequestsSuffice, OneAnswer, Gives, NarrowGives, MakeGives, JoinGives, ChooseGives, PrefixGives, SequenceGives, NegateGives, StarGives, StarAnswers, CompileGives, CompileAnswers}
@@ -98,7 +98,10 @@ pub star-gives : StarGives
 star-gives o L d h k e = gives o _ _ (rules-agree o .star-once d) (star-given L d h k e)
 
 pub star-answers : StarAnswers
-star-answers o L d h names spare named = (enough-rounds names L d h named, star-gives o L d h (enough-rounds names L d h named) (star-ends names L d h named spare))
+star-answers o L d h = (R .0, star-gives o L d h (R .0) (R .1))
+  where
+    R : (k : ℕ) × (round o d k ≡ round o d (suc k))
+    R = rounds-end L d h
 
 pub compile-gives : CompileGives
 compile-gives o L p l d c = gives o _ _ (rules-agree o .compile-once p) (compile-given L p d c l)
@@ -107,4 +110,4 @@ pub compile-answers : CompileAnswers
 compile-answers o L p l short = (D .0, D .1, compile-gives o L p l (D .0) (D .1))
   where
     D : (d : Diagram) × Compiles o p d
-    D = compiles (named-in-either p p) L (spare-either p p short short) p l (uses-first p p)
+    D = compiles (named-in-either p p) L p l (uses-first p p)

@@ -11,7 +11,6 @@ use Rattle.weights.specs.Order.{In}
 use Rattle.meaning.specs.Leaves.{Action, Each, ActionFormed}
 use Rattle.meaning.specs.Diagrams.{Diagram, narrow, make, Tests, After, Formed}
 use Rattle.meaning.specs.Constructions.{join, choose, prefix, sequence, negate, round, Compiles}
-use Rattle.meaning.specs.Frames.{Spare, Named}
 use Rattle.requests.specs.Requests.{Request, Records, RecordFormed}
 use Rattle.requests.specs.Rules.{Narrows, Makes, Joins, Chooses, Prefixes, Sequences, Negates, Stars, Compiled}
 
@@ -123,17 +122,10 @@ StarGives =
     round o d k ≡ round o d (suc k) →
     Gives o (Stars o d) (round o d k)
 
--- where each field has values that the diagram does not name, there is such a round
+-- and there is such a round
 abbrev pub StarAnswers : Type 0
 StarAnswers =
-    (o : Ops) →
-    Laws o →
-    (d : Diagram) →
-    Formed o d →
-    (names : ℕ → List ℕ) →
-    Spare names →
-    Named names d →
-    (k : ℕ) × Gives o (Stars o d) (round o d k)
+    (o : Ops) → Laws o → (d : Diagram) → Formed o d → (k : ℕ) × Gives o (Stars o d) (round o d k)
 
 abbrev pub CompileGives : Type 0
 CompileGives = (o : Ops) → Laws o → (p : Policy) → Legal p → (d : Diagram) → Compiles o p d → Gives o (Compiled o p) d
