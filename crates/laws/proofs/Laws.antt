@@ -5,7 +5,7 @@ use mathlib.Core.Logic.{_≢_}
 use Prim.Native.Nat.{ℕ, suc, _<_, _≤_}
 use lib.ListN.{length, getD}
 use Rattle.format.specs.Actions.{apply}
-use Rattle.format.specs.Policy.{Policy, Predicate}
+use Rattle.format.specs.Policy.{Policy, Predicate, Legal}
 use Rattle.weights.specs.Weights.{Ops, Laws, Weight}
 use Rattle.weights.specs.Order.{Lub}
 use Rattle.meaning.specs.Leaves.{Action, Frame}
@@ -23,15 +23,15 @@ use Rattle.meaning.proofs.Starring.{sequence-lub, star-means, round-good, round
 use Rattle.meaning.proofs.Compiling.{means-alike, Compiled, compiled, compiles, compiles-once, named-in-either, uses-first, uses-second, spare-either}
 use Rattle.laws.specs.Claims.{Sound, OneMeaning, Narrowed, NarrowKeeps, Made, MakeKeeps, Canonical, JoinIsUnion, Chooses, ChooseIsChoice, PrefixGoesBefore, SequenceIsSequence, NegateIsNot, Stars, StarEnds, DiagramOf, DiagramsGiveMeanings, SameMeaning, SameExactly, DiagramsDecide}
 
--- the diagram of a sound policy
-of-policy : {o : Ops} (L : Laws o) (p q : Policy) → Sound p → (d : Diagram) → Compiles o p d → Compiled o (named-in-either p q) p d
-of-policy L p q h d c = compiled (named-in-either p q) L p d c (h .legal) (uses-first p q)
+-- the diagram of a legal policy
+of-policy : {o : Ops} (L : Laws o) (p q : Policy) → Legal p → (d : Diagram) → Compiles o p d → Compiled o (named-in-either p q) p d
+of-policy L p q h d c = compiled (named-in-either p q) L p d c h (uses-first p q)
 
 pub diagrams-give-meanings : DiagramsGiveMeanings
 diagrams-give-meanings o L p h = (d .0, record { compiles = d .1; only-one = λ e c. compiles-once o p (d .0) e (d .1) c; formed = D .formed; means = D .means })
   where
     d : (e : Diagram) × Compiles o p e
-    d = compiles (named-in-either p p) L p (h .legal) (uses-first p p)
+    d = compiles (named-in-either p p) L p h (uses-first p p)
 
     D : Compiled o (named-in-either p p) p (d .0)
     D = of-policy L p p h (d .0) (d .1)

@@ -23,7 +23,7 @@ pub record Sound (p : Policy) : Type 0 where
 -- there is a meaning, and every other is the same on frames in range
 abbrev pub OneMeaning : Type 0
 OneMeaning =
-    (o : Ops) → Laws o → (p : Policy) → Sound p → (m : Meaning) × Means o p m × ((n : Meaning) → Means o p n → Alike m n)
+    (o : Ops) → Laws o → (p : Policy) → Legal p → (m : Meaning) × Means o p m × ((n : Meaning) → Means o p n → Alike m n)
 
 -- narrowing by (f, n) keeps the weights of the frames whose field f holds n
 pub record Narrowed (o : Ops) (d : Diagram) (f n : ℕ) : Type 0 where
@@ -126,7 +126,7 @@ NegateIsNot =
     (o : Ops) →
     Laws o →
     (p : Policy) →
-    Sound p →
+    Legal p →
     Predicate p →
     (d : Diagram) →
     Compiles o p d →
@@ -149,7 +149,7 @@ pub record DiagramOf (o : Ops) (p : Policy) (d : Diagram) : Type 0 where
   pub means : Means o p (weigh o d)
 
 abbrev pub DiagramsGiveMeanings : Type 0
-DiagramsGiveMeanings = (o : Ops) → Laws o → (p : Policy) → Sound p → (d : Diagram) × DiagramOf o p d
+DiagramsGiveMeanings = (o : Ops) → Laws o → (p : Policy) → Legal p → (d : Diagram) × DiagramOf o p d
 
 -- what the two policies mean is the same
 abbrev pub SameMeaning : Ops → Policy → Policy → Type 0

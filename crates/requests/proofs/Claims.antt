@@ -107,7 +107,7 @@ pub compile-gives : CompileGives
 compile-gives o L p l d c = gives o _ _ (rules-agree o .compile-once p) (compile-given L p d c l)
 
 pub compile-answers : CompileAnswers
-compile-answers o L p l short = (D .0, D .1, compile-gives o L p l (D .0) (D .1))
+compile-answers o L p l = (D .0, D .1, compile-gives o L p l (D .0) (D .1))
   where
     D : (d : Diagram) × Compiles o p d
     D = compiles (named-in-either p p) L p l (uses-first p p)

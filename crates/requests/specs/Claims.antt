@@ -2,10 +2,8 @@
 use mathlib.Core.Path.{_≡_}
 use mathlib.Core.List.{List}
 use Prim.Native.Nat.{ℕ, suc, _<_, _≤_}
-use lib.ListN.{length}
 use Rattle.format.specs.Fields.{fields, LegalValue}
-use Rattle.format.specs.Limits.{words-limit}
-use Rattle.format.specs.Policy.{Policy, postfix, Legal}
+use Rattle.format.specs.Policy.{Policy, Legal}
 use Rattle.weights.specs.Weights.{Ops, Weight, Laws}
 use Rattle.weights.specs.Order.{In}
 use Rattle.meaning.specs.Leaves.{Action, Each, ActionFormed}
@@ -130,9 +128,9 @@ StarAnswers =
 abbrev pub CompileGives : Type 0
 CompileGives = (o : Ops) → Laws o → (p : Policy) → Legal p → (d : Diagram) → Compiles o p d → Gives o (Compiled o p) d
 
--- a legal policy within the limit of words has a diagram
+-- a legal policy has a diagram
 abbrev pub CompileAnswers : Type 0
-CompileAnswers = (o : Ops) → Laws o → (p : Policy) → Legal p → length (postfix p) ≤ words-limit → (d : Diagram) × Compiles o p d × Gives o (Compiled o p) d
+CompileAnswers = (o : Ops) → Laws o → (p : Policy) → Legal p → (d : Diagram) × Compiles o p d × Gives o (Compiled o p) d
 
 -- every record of the diagram is among these
 abbrev pub Held : List Request → Diagram → Type 0

@@ -53,7 +53,7 @@ pub fn star_by_the_rules()
     ensures answered { λ _. ⌜ StarAnswers ⌝ }
 {}
 
-// Every legal policy within the limit of words is compiled.
+// Every legal policy is compiled.
 pub fn compile_by_the_rules()
     ensures given { λ _. ⌜ CompileGives ⌝ }
     ensures answered { λ _. ⌜ CompileAnswers ⌝ }
