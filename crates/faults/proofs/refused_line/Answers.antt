@@ -14,7 +14,7 @@ returns c =
     (layer ++ codes " place ")
     place
     c.new-line.ensures.items
-    c.in-ok-push-number.ensures
-    c.in-ok-push-number-2.ensures
-    c.in-ok-push-number-3.ensures
+    c.in_ok-push_number.ensures
+    c.in_ok-push_number-2.ensures
+    c.in_ok-push_number-3.ensures
     ∙ ap (λ t. codes "refused " ++ (number ++ (codes " layer " ++ t))) (append_assoc layer (codes " place ") place)

@@ -9,6 +9,6 @@ returns c =
     c.args.before.now
     (decimal c.args.n)
     c.args.after.now
-    c.in-ok-extend-from-slice.ensures.items
-    c.in-ok-push-decimal.ensures
-    c.in-ok-extend-from-slice-2.ensures.items
+    c.in_ok-extend_from_slice.ensures.items
+    c.in_ok-push_decimal.ensures
+    c.in_ok-extend_from_slice-2.ensures.items
