@@ -8,28 +8,28 @@ use Rattle.checking.proofs.Verdicts.{started, advanced, finished, accepted, unfi
 use Rattle.checking.proofs.Determinism.{determined}
 use Rattle.checking.proofs.checking.check.Goals as goal
 
-pub returns-then-words-gt-WORDS-LIMIT : goal.returns-then-words-gt-WORDS-LIMIT
-returns-then-words-gt-WORDS-LIMIT c = record { verdict = omega arith; determined = determined c.args.words.now }
+pub returns-then-words-gt-WORDS_LIMIT : goal.returns-then-words-gt-WORDS_LIMIT
+returns-then-words-gt-WORDS_LIMIT c = record { verdict = omega arith; determined = determined c.args.words.now }
 
 pub loop-place-init : goal.loop-place-init
 loop-place-init c = started c.args.words.now (flags c.none-waiting.result) c.none-waiting.ensures
 
-pub returns-in-default : goal.returns-in-default
-returns-in-default c =
+pub returns-in_default : goal.returns-in_default
+returns-in_default c =
     record {
       verdict = bad_word c.args.words.now c.loop-place.place (flags c.loop-place.waiting) (omega arith) (omega arith)
-          c.loop-place.invariant c.in-default.ensures.none;
+          c.loop-place.invariant c.in_default.ensures.none;
       determined = determined c.args.words.now;
     }
 
-pub returns-in-err-accept : goal.returns-in-err-accept
-returns-in-err-accept c =
+pub returns-in_err-accept : goal.returns-in_err-accept
+returns-in_err-accept c =
     let h = c.in-Some.ensures.some in
-    let p = err_from_is_err_and c.from-residual.result c.from-residual.ensures.1 in
+    let p = err_from_is_err_and c.from_residual.result c.from_residual.ensures.1 in
     record {
       verdict = rw (p.1, p.2)
-          (blocked c.args.words.now c.loop-place.place c.in-Some.word (flags c.loop-place.waiting) c.in-err-accept.field-0.0
-          (omega arith) (omega arith) h.0 h.1 c.loop-place.invariant c.in-err-accept.ensures);
+          (blocked c.args.words.now c.loop-place.place c.in-Some.word (flags c.loop-place.waiting) c.in_err-accept.field-0.0
+          (omega arith) (omega arith) h.0 h.1 c.loop-place.invariant c.in_err-accept.ensures);
       determined = determined c.args.words.now;
     }
 
@@ -39,7 +39,7 @@ loop-place-preserved c =
     let fits : length (flags c.accept.new.self) ≤ waiting_limit =
     omega (arith, height_most c.accept.new.self.predicates c.accept.new.self.count, c.accept.new.self.fits) in
     advanced c.args.words.now c.loop-place.place c.in-Some.word (flags c.loop-place.waiting) (flags c.accept.new.self)
-    (omega arith) h.0 h.1 fits c.loop-place.invariant c.in-ok-accept.ensures
+    (omega arith) h.0 h.1 fits c.loop-place.invariant c.in_ok-accept.ensures
 
 pub returns-then-len-ne1 : goal.returns-then-len-ne1
 returns-then-len-ne1 c =

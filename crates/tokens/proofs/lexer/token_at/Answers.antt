@@ -7,14 +7,14 @@ use Rattle.tokens.specs.Lexing.{belongs_to, mark, Starts}
 use Rattle.tokens.proofs.Fronts.{letters_start, digits_start, assign_starts, colon_alone, mark_starts, none_starts}
 use Rattle.tokens.proofs.lexer.token_at.Goals as goal
 
-pub slice-bounds-result-end : goal.slice-bounds-result-end
-slice-bounds-result-end c = omega (arith, prefix_len-le-length (belongs_to Letter) (drop c.args.place c.args.text.now), length-drop c.args.place c.args.text.now)
+pub slice_bounds-result-end : goal.slice_bounds-result-end
+slice_bounds-result-end c = omega (arith, prefix_len-le-length (belongs_to Letter) (drop c.args.place c.args.text.now), length-drop c.args.place c.args.text.now)
 
 pub returns-then-belongs : goal.returns-then-belongs
 returns-then-belongs c = (letters_start _ _ c.requires (sym c.if-belongs.ensures) _ (omega arith), omega (arith, prefix_len-drop_yes (belongs_to Letter) c.args.text.now c.args.place 0 c.requires (sym c.if-belongs.ensures)))
 
-pub slice-bounds-result-end-then-belongs-2 : goal.slice-bounds-result-end-then-belongs-2
-slice-bounds-result-end-then-belongs-2 c = omega (arith, prefix_len-le-length (belongs_to Digit) (drop c.args.place c.args.text.now), length-drop c.args.place c.args.text.now)
+pub slice_bounds-result-end-then-belongs-2 : goal.slice_bounds-result-end-then-belongs-2
+slice_bounds-result-end-then-belongs-2 c = omega (arith, prefix_len-le-length (belongs_to Digit) (drop c.args.place c.args.text.now), length-drop c.args.place c.args.text.now)
 
 pub returns-then-belongs-2 : goal.returns-then-belongs-2
 returns-then-belongs-2 c = (digits_start _ _ c.requires (sym c.if-belongs.ensures) (sym c.if-belongs-2.ensures) _ (omega arith), omega (arith, prefix_len-drop_yes (belongs_to Digit) c.args.text.now c.args.place 0 c.requires (sym c.if-belongs-2.ensures)))

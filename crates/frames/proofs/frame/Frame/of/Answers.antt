@@ -7,7 +7,7 @@ pub loop-index-preserved : goal.loop-index-preserved
 loop-index-preserved c =
     let l : c.loop-index.index < length c.loop-index.values = omega arith in (
       length-set _ _ _ ∙ c.loop-index.invariant.0,
-      right_more c.args.words c.loop-index.values c.loop-index.index _ l c.loop-index.invariant.1 c.in-ok-values.ensures,
+      right_more c.args.words c.loop-index.values c.loop-index.index _ l c.loop-index.invariant.1 c.in_ok-values.ensures,
     )
 
 pub returns : goal.returns

@@ -5,11 +5,11 @@ use Rattle.frames.specs.Frames.{NoFrame}
 use Rattle.frames.proofs.Words.{reads, eight}
 use Rattle.frames.proofs.frame.Frame.read.Goals as goal
 
-pub returns-in-default : goal.returns-in-default
-returns-in-default c = reads c.args.words.now (Err Length) (λ e. omega (arith, ltb-true, ltb-false))
+pub returns-in_default : goal.returns-in_default
+returns-in_default c = reads c.args.words.now (Err Length) (λ e. omega (arith, ltb-true, ltb-false))
 
-pub returns-in-default·2 : goal.returns-in-default·2
-returns-in-default·2 c = reads c.args.words.now (Err Length) (λ e. omega (arith, ltb-true, ltb-false))
+pub returns-in_default-2 : goal.returns-in_default-2
+returns-in_default-2 c = reads c.args.words.now (Err Length) (λ e. omega (arith, ltb-true, ltb-false))
 
 pub returns : goal.returns
 returns c =

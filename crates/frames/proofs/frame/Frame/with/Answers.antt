@@ -3,11 +3,11 @@ use Rattle.format.specs.Fields.{fields, LegalValue}
 use Rattle.frames.proofs.Words.{set_legal}
 use Rattle.frames.proofs.frame.Frame.with.Goals as goal
 
-pub invariant-of-result : goal.invariant-of-result
-invariant-of-result c =
+pub invariant_of-result : goal.invariant_of-result
+invariant_of-result c =
     let s = c.args.setting in
-    let l : s.field < length c.args.self.values = omega (arith, s.exists) in (
-      subst (λ (xs : List ℕ). (f : ℕ) → f < fields → LegalValue f (get_or xs f 0)) (sym c.replaced.ensures)
-          (set_legal c.args.self.values s.field s.value l s.legal c.args.self.legal),
-      tt,
-    )
+    let l : s.field < length c.args.self.values = omega (arith, s.exists) in
+    record {
+      legal = subst (λ (xs : List ℕ). (f : ℕ) → f < fields → LegalValue f (get_or xs f 0)) (sym c.replaced.ensures)
+          (set_legal c.args.self.values s.field s.value l s.legal c.args.self.legal);
+    }
