@@ -53,7 +53,7 @@ applied_sets f (p ∷ ps) ys s l h =
 module _ {o : Ops} (laws : Laws o) where
   weight_kind : (e : Emission) → LegalEmission o e → (kind_of (word 12 0 e.weight) ≡ 12) × (value_of (word 12 0 e.weight) ≡ e.weight)
   weight_kind e l =
-      let small = laws.below_end e.weight l.of-kind in
+      let small = laws.below_end e.weight l.of_kind in
       let z = parts_of_word 12 0 e.weight (omega arith, omega arith) in
       (z.0, z.2)
 
@@ -79,11 +79,11 @@ module _ {o : Ops} (laws : Laws o) where
 
   sends_row : (r : Row) (s : List ℕ) → LegalRow o r → sends (row_words r) s ≡ map (send s) r.emissions
   sends_row r s l =
-      let few = few_pairs 0 r.matches (omega arith) l.matches-legal in
+      let few = few_pairs 0 r.matches (omega arith) l.matches_legal in
       let k = (parts_of_word 10 (length r.matches) (length r.emissions) (omega arith, l.countable)).0 in
       cond-false _ _ _ (ne_eqb (kind_of (word 10 (length r.matches) (length r.emissions))) 12 (λ x. omega (arith, k, x))) ∙
-      sends_past (match_words r.matches) (flat_map emission_words r.emissions) s (other_kinds 11 0 r.matches (λ x. omega arith) l.matches-legal) ∙
-      sends_emissions r.emissions s l.emissions-legal
+      sends_past (match_words r.matches) (flat_map emission_words r.emissions) s (other_kinds 11 0 r.matches (λ x. omega arith) l.matches_legal) ∙
+      sends_emissions r.emissions s l.emissions_legal
 
 joins_sent : (o : Ops) (s t : List ℕ) (a : ℕ) (es : List Emission) → weight_in o t a (map (send s) es) ≡ joins o s t a es
 unfolding send

@@ -9,8 +9,8 @@ loop-field-preserved c =
     let b = c.args.second.now in
     let i = c.loop-field.field in
     let zs = c.loop-field.sets in (
-      length-set zs i c.last-set.result ∙ c.loop-field.invariant.0,
-      joined_more last_set a.sets b.sets None None None zs i c.last-set.result (c.loop-field.invariant.0 ∙ sym a.whole) (omega (arith, a.whole)) c.last-set.ensures c.loop-field.invariant.1,
+      length-set zs i c.last_set.result ∙ c.loop-field.invariant.0,
+      joined_more last_set a.sets b.sets None None None zs i c.last_set.result (c.loop-field.invariant.0 ∙ sym a.whole) (omega (arith, a.whole)) c.last_set.ensures c.loop-field.invariant.1,
     )
 
 pub returns : goal.returns

@@ -13,7 +13,10 @@ complete-requires c =
     let long = length-append (postfix c.requires.0) (not_words g.frames) in
     let one = ap length c.requires.1 in
     let wrote = c.emit-m.ensures in
-    (omega (arith, o.within, o.tall), (g.frames, o.stacked, omega (arith, room, long, one, wrote.count, wrote.long)))
+    record {
+      depth_in_bounds = omega (arith, o.within, o.tall);
+      stacked = (g.frames, o.stacked, omega (arith, room, long, one, wrote.count, wrote.long));
+    }
 
 pub returns : goal.returns
 returns c = λ p e g o r.

@@ -8,14 +8,14 @@ pub loop-left-init : goal.loop-left-init
 loop-left-init c = (omega arith, λ fs s. turned_none _ fs _ _ _ s)
 
 pub emit-end-requires : goal.emit-end-requires
-emit-end-requires c = room_for_not (c.loop-left.invariant.1 c.requires.1.0 c.requires.1.1) (c.loop-left.left - 1) (omega arith) (sym c.if-is-negation.ensures) c.requires.1.2
+emit-end-requires c = room_for_not (c.loop-left.invariant.1 c.requires.stacked.0 c.requires.stacked.1) (c.loop-left.left - 1) (omega arith) (sym c.if-is_negation.ensures) c.requires.stacked.2
 
 pub loop-left-preserved : goal.loop-left-preserved
-loop-left-preserved c = (omega arith, λ fs s. turned_more _ _ (c.loop-left.left - 1) (c.loop-left.invariant.1 fs s) (omega arith) (sym c.if-is-negation.ensures) c.emit-end.ensures)
+loop-left-preserved c = (omega arith, λ fs s. turned_more _ _ (c.loop-left.left - 1) (c.loop-left.invariant.1 fs s) (omega arith) (sym c.if-is_negation.ensures) c.emit-end.ensures)
 
-pub returns-else-is-negation : goal.returns-else-is-negation
-returns-else-is-negation c = λ fs s.
-    turned_ends (c.loop-left.invariant.1 fs s) (λ less e. ap (λ n. negates (get_or c.args.stack.now n Negation)) (omega arith) ∙ sym c.if-is-negation.ensures)
+pub returns-else-is_negation : goal.returns-else-is_negation
+returns-else-is_negation c = λ fs s.
+    turned_ends (c.loop-left.invariant.1 fs s) (λ less e. ap (λ n. negates (get_or c.args.stack.now n Negation)) (omega arith) ∙ sym c.if-is_negation.ensures)
 
 pub returns-after-loop-left : goal.returns-after-loop-left
 returns-after-loop-left c = λ fs s. turned_ends (c.loop-left.invariant.1 fs s) (λ less e. absurd (omega arith))

@@ -25,7 +25,7 @@ returns-in-End g c = (
       (omega arith) c.loop-place.invariant c.in-End.is,
 )
 
-pub returns-in-default : goal.returns-in-default
-returns-in-default g c =
+pub returns-in_default : goal.returns-in_default
+returns-in_default g c =
     early_stops g.met.K.WeightKind.lawful c.args.words.now c.loop-place.place c.loop-place.checker.rows c.loop-place.checker.state
-    (omega arith) c.loop-place.invariant c.in-default.not-End
+    (omega arith) c.loop-place.invariant c.in_default.not-End

@@ -2,7 +2,7 @@ use Rattle.std.proofs.Common.{◌+◌, get_or, drop, sym, ap, ◌∙◌, arith}
 use Rattle.tables.specs.Scans.{applied}
 use Rattle.tables.proofs.Scans.{put_some, put_none, applied_more, applied_stop, applied_none}
 use Rattle.tables.proofs.forward.applied.Goals as goal
-use Rattle.tables.proofs.forward.applied.Goals.{in-Some, in-default}
+use Rattle.tables.proofs.forward.applied.Goals.{in-Some, in_default}
 
 pub returns-then-word-ne-SET : goal.returns-then-word-ne-SET
 returns-then-word-ne-SET c =
@@ -26,10 +26,10 @@ loop-place-preserved c =
           ) ∙
           sym m ∙
           c.loop-place.invariant
-      | in-default w ↦
+      | in_default w ↦
           ap (applied (drop (i + 1) ws))
           (ap (λ x. x.values) w.sent-is ∙
-          sym (put_none (get_or ws i 0) c.split-word.result.field c.split-word.result.value s e.field e.value w.in-default.ensures.none)
+          sym (put_none (get_or ws i 0) c.split-word.result.field c.split-word.result.value s e.field e.value w.in_default.ensures.none)
           ) ∙
           sym m ∙
           c.loop-place.invariant

@@ -6,4 +6,4 @@ use Rattle.tables.proofs.forward.write_sent.Goals as goal
 pub returns : goal.returns
 returns c =
     let a : 3221225472 + c.args.weight % 16777216 ≡ word 12 0 (value_of c.args.weight) = omega arith in
-    put_sent c.args.out.now c.args.at _ _ _ _ c.requires a (c.copy-from-slice.ensures.after ∙ c.words-words.ensures)
+    put_sent c.args.out.now c.args.at _ _ _ _ c.requires a (c.copy_from_slice.ensures.after ∙ c.words-words.ensures)

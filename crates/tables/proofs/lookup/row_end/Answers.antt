@@ -2,14 +2,14 @@ use Rattle.std.proofs.Common.{sym, arith}
 use Rattle.tables.proofs.Scans.{body_stop, body_more, body_none}
 use Rattle.tables.proofs.lookup.row_end.Goals as goal
 
-pub returns-then-closes-row : goal.returns-then-closes-row
-returns-then-closes-row c =
-    let z = body_stop c.args.words.now c.loop-place.place c.loop-place-test.true (sym c.if-closes-row.ensures) in
+pub returns-then-closes_row : goal.returns-then-closes_row
+returns-then-closes_row c =
+    let z = body_stop c.args.words.now c.loop-place.place c.loop-place-test.true (sym c.if-closes_row.ensures) in
     (omega arith, omega arith)
 
 pub loop-place-preserved : goal.loop-place-preserved
 loop-place-preserved c =
-    let z = body_more c.args.words.now c.loop-place.place c.loop-place-test.true (sym c.if-closes-row.ensures) in
+    let z = body_more c.args.words.now c.loop-place.place c.loop-place-test.true (sym c.if-closes_row.ensures) in
     omega arith
 
 pub returns : goal.returns

@@ -4,11 +4,12 @@ use Rattle.format.specs.Actions.{last_set, LegalSets}
 use Rattle.actions.proofs.Composing.{compose_legal}
 use Rattle.actions.proofs.actions.Action.then.Goals as goal
 
-pub invariant-of-result : goal.invariant-of-result
-invariant-of-result c =
+pub invariant_of-result : goal.invariant_of-result
+invariant_of-result c =
     let a = c.args.self.now in
     let b = c.args.other.now in
-    let w = a.whole ∙ sym b.whole in (
-      ap length c.composed-sets.ensures ∙ (length-zip2 last_set a.sets b.sets w ∙ a.whole),
-      (subst (λ s. LegalSets s) (sym c.composed-sets.ensures) (compose_legal a.sets b.sets w a.legal b.legal), tt),
-    )
+    let w = a.whole ∙ sym b.whole in
+    record {
+      whole = ap length c.composed-sets.ensures ∙ (length-zip2 last_set a.sets b.sets w ∙ a.whole);
+      legal = subst (λ s. LegalSets s) (sym c.composed-sets.ensures) (compose_legal a.sets b.sets w a.legal b.legal);
+    }

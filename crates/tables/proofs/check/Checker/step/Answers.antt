@@ -65,27 +65,27 @@ returns-else-due-eq0-2 g c =
     let x = expected g.met.K.WeightKind.lawful c.args.self.now.rows c.args.self.now.state c.args.bits rest c.requires r in
     grind arith
 
-pub returns-in-default : goal.returns-in-default
-returns-in-default g c rest r =
+pub returns-in_default : goal.returns-in_default
+returns-in_default g c rest r =
     let x = expected g.met.K.WeightKind.lawful c.args.self.now.rows c.args.self.now.state c.args.bits rest c.requires r in
     grind arith
 
-pub returns-in-default·2 : goal.returns-in-default·2
-returns-in-default·2 g c rest r =
+pub returns-in_default-2 : goal.returns-in_default-2
+returns-in_default-2 g c rest r =
     let x = expected g.met.K.WeightKind.lawful c.args.self.now.rows c.args.self.now.state c.args.bits rest c.requires r in
     grind arith
 
-pub returns-in-default·3 : goal.returns-in-default·3
-returns-in-default·3 g c rest r =
+pub returns-in_default-3 : goal.returns-in_default-3
+returns-in_default-3 g c rest r =
     let x = expected g.met.K.WeightKind.lawful c.args.self.now.rows c.args.self.now.state c.args.bits rest c.requires r in
     grind arith
 
-pub returns-in-default·4 : goal.returns-in-default·4
-returns-in-default·4 g c rest r =
+pub returns-in_default-4 : goal.returns-in_default-4
+returns-in_default-4 g c rest r =
     let x = expected g.met.K.WeightKind.lawful c.args.self.now.rows c.args.self.now.state c.args.bits rest c.requires r in
     grind arith
 
-pub returns-in-default·5 : goal.returns-in-default·5
-returns-in-default·5 g c rest r =
+pub returns-in_default-5 : goal.returns-in_default-5
+returns-in_default-5 g c rest r =
     let x = expected g.met.K.WeightKind.lawful c.args.self.now.rows c.args.self.now.state c.args.bits rest c.requires r in
     grind arith
