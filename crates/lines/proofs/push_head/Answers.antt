@@ -11,5 +11,5 @@ returns c =
     (codes " emissions:")
     c.split-word.ensures.field
     c.split-word.ensures.value
-    c.in-ok-push-number.ensures
-    c.in-ok-push-number-2.ensures
+    c.in_ok-push_number.ensures
+    c.in_ok-push_number-2.ensures

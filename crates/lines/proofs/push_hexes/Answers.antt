@@ -12,7 +12,7 @@ loop-word-preserved c =
     c.loop-word.word-index
     c.loop-word-test.true
     c.loop-word.invariant
-    c.in-ok-push-spaced-hex.ensures
+    c.in_ok-push_spaced_hex.ensures
 
 pub returns : goal.returns
 returns c =

@@ -13,7 +13,7 @@ returns c =
     c.args.sign.now
     c.split-word.ensures.value
     refl
-    c.in-ok-extend-from-slice.ensures.items
-    (c.field-name.ensures ∙ ap field_name c.split-word.ensures.field)
-    c.in-ok-extend-from-slice-2.ensures.items
-    c.in-ok-push-number.ensures
+    c.in_ok-extend_from_slice.ensures.items
+    (c.field_name.ensures ∙ ap field_name c.split-word.ensures.field)
+    c.in_ok-extend_from_slice-2.ensures.items
+    c.in_ok-push_number.ensures

@@ -13,8 +13,8 @@ returns c =
     (codes ":")
     (flat_map frame_word_said c.args.words.now)
     (codes "\n")
-    c.in-ok-extend-from-slice.ensures.items
-    c.in-ok-push-hexes.ensures
-    c.in-ok-push.ensures.items
-    c.in-ok-push-frame-words.ensures
-    c.in-ok-push-2.ensures.items
+    c.in_ok-extend_from_slice.ensures.items
+    c.in_ok-push_hexes.ensures
+    c.in_ok-push.ensures.items
+    c.in_ok-push_frame_words.ensures
+    c.in_ok-push-2.ensures.items

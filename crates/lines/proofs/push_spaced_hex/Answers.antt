@@ -9,5 +9,5 @@ returns c =
     (vec_items c.args.out.now)
     (codes " ")
     (hex_word c.args.word)
-    c.in-ok-push.ensures.items
-    c.in-ok-push-hex.ensures
+    c.in_ok-push.ensures.items
+    c.in_ok-push_hex.ensures

@@ -12,5 +12,5 @@ returns c =
     (decimal (length c.args.words.now))
     (codes " words")
     (flat_map table_word_said c.args.words.now)
-    c.in-ok-push-number.ensures
-    c.in-ok-push-table-words.ensures
+    c.in_ok-push_number.ensures
+    c.in_ok-push_table_words.ensures

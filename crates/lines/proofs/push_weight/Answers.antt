@@ -8,4 +8,4 @@ returns c =
     (vec_items c.args.out.now)
     (codes " at weight ")
     c.split.ensures.value
-    c.in-ok-push-number.ensures
+    c.in_ok-push_number.ensures

@@ -3,8 +3,8 @@ use Rattle.policy.specs.Reading.{Rejected}
 use Rattle.policy.proofs.Lengths.{scanned}
 use Rattle.policy.proofs.reader.scan.Goals as goal
 
-pub returns-then-text-gt-TEXT-LIMIT : goal.returns-then-text-gt-TEXT-LIMIT
-returns-then-text-gt-TEXT-LIMIT c = Rejected.too_long (omega arith)
+pub returns-then-text-gt-TEXT_LIMIT : goal.returns-then-text-gt-TEXT_LIMIT
+returns-then-text-gt-TEXT_LIMIT c = Rejected.too_long (omega arith)
 
 pub returns : goal.returns
 returns c = scanned c.args.text.now c.args.out.now c.parse.new.out c.parse.result (omega arith) c.parse.ensures
