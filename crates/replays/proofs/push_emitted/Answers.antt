@@ -14,11 +14,11 @@ loop-at-preserved c = (
       answer
       (vec_items c.args.text.now)
       (vec_items c.loop-at.text)
-      (vec_items c.push-line.new.out)
+      (vec_items c.push_line.new.out)
       (omega arith)
       (omega arith)
       (c.loop-at.invariant.1 answer wide e)
-      c.in-ok-push-line.ensures,
+      c.in_ok-push_line.ensures,
 )
 
 pub returns : goal.returns

@@ -7,7 +7,7 @@ use Rattle.replays.proofs.push_frames.Goals as goal
 
 pub loop-at-preserved : goal.loop-at-preserved
 loop-at-preserved g c = (
-  omega (arith, min-le_left (length c.args.words.now - c.loop-at.at) fields, c.frame-width-width.ensures),
+  omega (arith, min-le_left (length c.args.words.now - c.loop-at.at) fields, c.frame_width-width.ensures),
   λ rows legal e.
       told_next
       g.K.WeightKind.ops
@@ -15,18 +15,18 @@ loop-at-preserved g c = (
       (length c.loop-at.memory)
       (length c.args.memory.now)
       c.loop-at.at
-      c.frame-width-width.result
-      ((c.loop-at.at + c.frame-width-width.result) - c.loop-at.at)
+      c.frame_width-width.result
+      ((c.loop-at.at + c.frame_width-width.result) - c.loop-at.at)
       c.args.words.now
       (vec_items c.args.text.now)
       (vec_items c.loop-at.text)
-      (vec_items c.push-frame.new.text)
+      (vec_items c.push_frame.new.text)
       c.loop-at.auto.memory
       c.loop-at-test.true
-      c.frame-width-width.ensures
+      c.frame_width-width.ensures
       (omega arith)
       (c.loop-at.invariant.1 rows legal e)
-      (c.in-ok-push-frame.ensures rows legal e),
+      (c.in_ok-push_frame.ensures rows legal e),
 )
 
 pub returns : goal.returns

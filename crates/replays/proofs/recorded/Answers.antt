@@ -14,7 +14,7 @@ pub returns-in-Err : goal.returns-in-Err
 returns-in-Err g c =
     let o = g.K.WeightKind.ops
     in made_then
-    c.refused-line.result
+    c.refused_line.result
     (λ v said.
     table_refused
     o
@@ -24,4 +24,4 @@ returns-in-Err g c =
     c.in-Err.fault
     (case_err (λ t. Legal o t.words.now c.args.words.now) (RefusedAt o c.args.words.now) c.in-Err.is c.requires)
     (said ∙ ap refused_line c.shown.ensures))
-    c.refused-line.ensures
+    c.refused_line.ensures

@@ -3,8 +3,8 @@ use Rattle.lines.specs.Lines.{table_lines}
 use Rattle.replays.proofs.Records.{recorded, table_checked}
 use Rattle.replays.proofs.replayed.Goals as goal
 
-pub push-frames-requires : goal.push-frames-requires
-push-frames-requires g c = (search rules, table_checked g.K.WeightKind.ops c.requires.1 c.requires.0)
+pub push_frames-requires : goal.push_frames-requires
+push_frames-requires g c = (search rules, table_checked g.K.WeightKind.ops c.requires.1 c.requires.0)
 
 pub returns : goal.returns
 returns g c =
@@ -14,11 +14,11 @@ returns g c =
     p.0
     c.args.words.now
     c.args.frames.now
-    (vec_items c.push-table.new.out)
-    (vec_items c.push-frames.new.text)
-    (length c.deref-mut.result.now)
+    (vec_items c.push_table.new.out)
+    (vec_items c.push_frames.new.text)
+    (length c.deref_mut.result.now)
     p.1
     p.2
-    (c.in-ok-push-table.ensures ∙ ap (λ t. t ++ table_lines c.args.words.now) c.new-text.ensures.items)
-    (c.deref-mut.ensures.len ∙ c.in-ok-memory.ensures.len ∙ c.in-Some.ensures.1)
-    (c.in-ok-push-frames.ensures p.0 p.1 (c.requires.1 ∙ p.2))
+    (c.in_ok-push_table.ensures ∙ ap (λ t. t ++ table_lines c.args.words.now) c.new-text.ensures.items)
+    (c.deref_mut.ensures.len ∙ c.in_ok-memory.ensures.len ∙ c.in-Some.ensures.1)
+    (c.in_ok-push_frames.ensures p.0 p.1 (c.requires.1 ∙ p.2))

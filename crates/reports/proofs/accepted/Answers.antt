@@ -13,6 +13,6 @@ returns c =
     (flat_map word_line c.args.words.now)
     (codes "accepted " ++ (decimal (length c.args.words.now) ++ codes " words\n"))
     c.new-record.ensures.items
-    c.in-ok-push-number.ensures
-    c.in-ok-push-words.ensures
-    c.in-ok-push-number-2.ensures
+    c.in_ok-push_number.ensures
+    c.in_ok-push_words.ensures
+    c.in_ok-push_number-2.ensures

@@ -14,7 +14,7 @@ returns c =
     name
     (details c.args.bits)
     (10 ∷ [])
-    c.in-ok-push.ensures.items
-    (renamed (vec_items c.push.new.self) _ name (c.kind-name.ensures ∙ ap kind_name c.split.ensures.kind) c.in-ok-extend-from-slice.ensures.items)
-    c.in-ok-push-details.ensures
-    c.in-ok-push-2.ensures.items
+    c.in_ok-push.ensures.items
+    (renamed (vec_items c.push.new.self) _ name (c.kind_name.ensures ∙ ap kind_name c.split.ensures.kind) c.in_ok-extend_from_slice.ensures.items)
+    c.in_ok-push_details.ensures
+    c.in_ok-push-2.ensures.items

@@ -12,6 +12,6 @@ returns c =
     name
     c.args.sign.now
     (decimal c.args.word.value)
-    (renamed (vec_items c.args.out.now) _ name c.field-name.ensures c.in-ok-extend-from-slice.ensures.items)
-    c.in-ok-extend-from-slice-2.ensures.items
-    c.in-ok-push-decimal.ensures
+    (renamed (vec_items c.args.out.now) _ name c.field_name.ensures c.in_ok-extend_from_slice.ensures.items)
+    c.in_ok-extend_from_slice-2.ensures.items
+    c.in_ok-push_decimal.ensures

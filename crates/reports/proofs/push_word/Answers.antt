@@ -11,6 +11,6 @@ returns c =
     (codes "word ")
     (hex_word c.args.bits)
     (word_said c.args.bits)
-    c.in-ok-extend-from-slice.ensures.items
-    c.in-ok-push-hex.ensures
-    c.in-ok-push-said.ensures
+    c.in_ok-extend_from_slice.ensures.items
+    c.in_ok-push_hex.ensures
+    c.in_ok-push_said.ensures

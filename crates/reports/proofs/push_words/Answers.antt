@@ -12,7 +12,7 @@ loop-word-preserved c =
     c.loop-word.word-index
     c.loop-word-test.true
     c.loop-word.invariant
-    c.in-ok-push-word.ensures
+    c.in_ok-push_word.ensures
 
 pub returns : goal.returns
 returns c =

@@ -6,12 +6,12 @@ pub returns-in-Some : goal.returns-in-Some
 returns-in-Some g c =
     record {
       answer =
-          entered_found c.args.count.now c.args.slots.now c.in-use-places.result c.in-use-places.ensures c.args.entry
+          entered_found c.args.count.now c.args.slots.now c.in_use-places.result c.in_use-places.ensures c.args.entry
           c.in-Some.place
-          c.number-at.result.number
+          c.number_at.result.number
           c.in-Some.ensures.0
           c.in-Some.ensures.1
-          c.number-at.ensures;
+          c.number_at.ensures;
       stays = refl;
       distinct = λ d. d;
     }
@@ -21,7 +21,7 @@ returns g c =
     let count = c.args.count.now in
     let slots = c.args.slots.now in
     let entry = c.args.entry in
-    let absent = absent_held count slots c.in-use-places.result c.in-use-places.ensures entry c.in-default.ensures in
+    let absent = absent_held count slots c.in_use-places.result c.in_use-places.ensures entry c.in_default.ensures in
     let e = c.add.ensures in
     record {
       answer = added_answer count slots entry _ _ absent c.add.result e.added e.counted e.written;

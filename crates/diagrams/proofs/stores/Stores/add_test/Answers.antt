@@ -4,13 +4,13 @@ use Rattle.diagrams.specs.Tests.{TestFull}
 use Rattle.diagrams.proofs.Kept.{contents_alike}
 use Rattle.diagrams.proofs.stores.Stores.add_test.Goals as goal
 
-pub returns-in-err-action : goal.returns-in-err-action
-returns-in-err-action g c =
-    let p = err_from_is_err_and c.from-residual.result c.from-residual.ensures.1 in
-    let h = c.in-err-action.ensures in
+pub returns-in_err-action : goal.returns-in_err-action
+returns-in_err-action g c =
+    let p = err_from_is_err_and c.from_residual.result c.from_residual.ensures.1 in
+    let h = c.in_err-action.ensures in
     rw (p.1, p.2)
     record {
-      answer = (h.answer.0, TestFull.actions_full c.keep-all.result c.keep-all.ensures h.answer.1.no_room);
+      answer = (h.answer.0, TestFull.actions_full c.keep_all.result c.keep_all.ensures h.answer.1.no_room);
       stays = contents_alike _ _ h.stays refl refl;
       lent =
           record {
@@ -23,15 +23,15 @@ returns-in-err-action g c =
           };
     }
 
-pub returns-in-err-cell : goal.returns-in-err-cell
-returns-in-err-cell g c =
-    let p = err_from_is_err_and c.from-residual-in-err-cell.result c.from-residual-in-err-cell.ensures.1 in
-    let h = c.in-ok-action.ensures in
-    let k = c.in-err-cell.ensures in
+pub returns-in_err-cell : goal.returns-in_err-cell
+returns-in_err-cell g c =
+    let p = err_from_is_err_and c.from_residual-in_err-cell.result c.from_residual-in_err-cell.ensures.1 in
+    let h = c.in_ok-action.ensures in
+    let k = c.in_err-cell.ensures in
     rw (p.1, p.2)
     record {
       answer =
-          (k.answer.0, TestFull.cells_full c.keep-all.result c.keep-all.ensures c.in-ok-action.action _ _ h.answer c.only-cell.result c.only-cell.ensures k.answer.1.no_room);
+          (k.answer.0, TestFull.cells_full c.keep_all.result c.keep_all.ensures c.in_ok-action.action _ _ h.answer c.only_cell.result c.only_cell.ensures k.answer.1.no_room);
       stays = contents_alike _ _ h.stays k.stays refl;
       lent =
           record {
@@ -44,16 +44,16 @@ returns-in-err-cell g c =
           };
     }
 
-pub returns-in-err-node : goal.returns-in-err-node
-returns-in-err-node g c =
-    let p = err_from_is_err_and c.from-residual-in-err-node.result c.from-residual-in-err-node.ensures.1 in
-    let h = c.in-ok-action.ensures in
-    let k = c.in-ok-cell.ensures in
-    let l = c.in-err-node.ensures in
+pub returns-in_err-node : goal.returns-in_err-node
+returns-in_err-node g c =
+    let p = err_from_is_err_and c.from_residual-in_err-node.result c.from_residual-in_err-node.ensures.1 in
+    let h = c.in_ok-action.ensures in
+    let k = c.in_ok-cell.ensures in
+    let l = c.in_err-node.ensures in
     rw (p.1, p.2)
     record {
       answer =
-          (l.answer.0, TestFull.nodes_full c.keep-all.result c.keep-all.ensures c.in-ok-action.action _ _ h.answer c.only-cell.result c.only-cell.ensures c.in-ok-cell.cell _ _ k.answer c.over-drop.result c.over-drop.ensures l.answer.1.no_room);
+          (l.answer.0, TestFull.nodes_full c.keep_all.result c.keep_all.ensures c.in_ok-action.action _ _ h.answer c.only_cell.result c.only_cell.ensures c.in_ok-cell.cell _ _ k.answer c.over_drop.result c.over_drop.ensures l.answer.1.no_room);
       stays = contents_alike _ _ h.stays k.stays l.stays;
       lent =
           record {
@@ -68,23 +68,23 @@ returns-in-err-node g c =
 
 pub returns : goal.returns
 returns g c =
-    let h = c.in-ok-action.ensures in
-    let k = c.in-ok-cell.ensures in
-    let l = c.in-ok-node.ensures in
+    let h = c.in_ok-action.ensures in
+    let k = c.in_ok-cell.ensures in
+    let l = c.in_ok-node.ensures in
     record {
       answer =
           record {
-            action = c.keep-all.result;
-            action_keeps_all = c.keep-all.ensures;
-            action_number = c.in-ok-action.action;
+            action = c.keep_all.result;
+            action_keeps_all = c.keep_all.ensures;
+            action_number = c.in_ok-action.action;
             action_entered = h.answer;
-            cell = c.only-cell.result;
-            cell_of_action = c.only-cell.ensures;
-            cell_number = c.in-ok-cell.cell;
+            cell = c.only_cell.result;
+            cell_of_action = c.only_cell.ensures;
+            cell_number = c.in_ok-cell.cell;
             cell_entered = k.answer;
-            node = c.over-drop.result;
-            node_over_cell = c.over-drop.ensures;
-            node_number = c.in-ok-node.node;
+            node = c.over_drop.result;
+            node_over_cell = c.over_drop.ensures;
+            node_number = c.in_ok-node.node;
             node_entered = l.answer;
             word = refl;
           };

@@ -5,4 +5,4 @@ use Rattle.stores.proofs.store.Store.get.Goals as goal
 pub returns : goal.returns
 returns g c =
     c.read.ensures
-    ∙ read_number c.args.count c.args.self.now.slots.now c.in-use-places.result c.in-use-places.ensures c.args.number.number (omega arith)
+    ∙ read_number c.args.count c.args.self.now.slots.now c.in_use-places.result c.in_use-places.ensures c.args.number.number (omega arith)
