@@ -1,4 +1,6 @@
 // Actions: what a diagram does to a frame.
+#![tactic(auto)]
+
 mod actions;
 
 pub use actions::{Action, WIDTH};

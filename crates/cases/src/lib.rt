@@ -1,3 +1,5 @@
+#![tactic(auto)]
+
 // The worked cases, run as tests: each is proved to be safe and to end, and then run.
 #[cfg(test)]
 mod policies;

@@ -1,3 +1,5 @@
+#![tactic(auto)]
+
 // Cases of the stores, run as tests.
 #[cfg(test)]
 mod tests {

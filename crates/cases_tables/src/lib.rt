@@ -1,3 +1,5 @@
+#![tactic(auto)]
+
 // The worked cases of tables and forwarding, run as tests.
 #[cfg(test)]
 mod checks;

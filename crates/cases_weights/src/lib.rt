@@ -1,4 +1,6 @@
 // A third weight kind, written over the trait alone, and a small case of walks.
+#![tactic(auto)]
+
 ghost use Rattle.std.specs.Prelude.{◌≡◌, bit_or, refl};
 ghost use Rattle.std.proofs.Common.{sym, ◌∙◌, ap, arith};
 ghost use Rattle.cases_weights.specs.Ports.{port_ops, all_ports};

@@ -1,4 +1,6 @@
 // Which words are a legal policy.
+#![tactic(auto)]
+
 mod checked;
 mod checking;
 mod waiting;

@@ -1,4 +1,6 @@
 // Reads a policy text from standard input and prints the record of what it says, or why it is refused.
+#![tactic(auto)]
+
 use format::TEXT_LIMIT;
 use reports::report;
 use std::io;

@@ -1,4 +1,6 @@
 // The counts of the records in store and their guard, diagrams that are handed in by their words, and the sizes of memories.
+#![tactic(auto)]
+
 mod counts;
 mod memory;
 mod operands;

@@ -4,7 +4,7 @@ use Rattle.format.specs.declared.settings.Setting.{Setting}
 use Rattle.diagrams.specs.Tests.{Contents, contents, TestMade, TestFull}
 use Rattle.counts.specs.declared.counts.Counts.{Counts}
 use Rattle.records.specs.declared.kinds.Diagram.{Diagram}
-use Rattle.diagrams.specs.declared.stores.Stores.{Stores}
+use Rattle.diagrams.specs.declared.memory.Stores.{Stores}
 
 pub contents_alike : (s t : Contents) → s.actions ≡ t.actions → s.cells ≡ t.cells → s.nodes ≡ t.nodes → s ≡ t
 contents_alike s t a b c = λ i. record { actions = a i; cells = b i; nodes = c i }

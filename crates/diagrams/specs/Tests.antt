@@ -11,7 +11,7 @@ use Rattle.records.specs.declared.kinds.Cell.{Cell}
 use Rattle.records.specs.declared.kinds.Diagram.{Diagram}
 use Rattle.records.specs.declared.kinds.Diagram.TheVariants.{Leaf, Branch}
 use Rattle.records.specs.declared.kinds.Node.{Node}
-use Rattle.diagrams.specs.declared.stores.Stores.{Stores}
+use Rattle.diagrams.specs.declared.memory.Stores.{Stores}
 
 -- the records in store
 pub record Contents : Type 0 where

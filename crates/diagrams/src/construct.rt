@@ -3,7 +3,7 @@ ghost use Rattle.std.specs.Prelude.{◌≡◌, MatchResult};
 ghost use Rattle.faults.specs.declared.layers.StoreFault.TheVariants.{Full};
 ghost use Rattle.diagrams.specs.Tests.{contents, OnlyCell, OverDrop, TestMade, TestFull, SameMemory};
 
-use super::stores::Stores;
+use super::memory::Stores;
 use actions::Action;
 use counts::{Counts, Guard};
 use faults::StoreFault;

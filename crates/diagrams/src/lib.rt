@@ -1,5 +1,7 @@
 // Diagrams in stores: a refused construction leaves no trace.
-mod construct;
-mod stores;
+#![tactic(auto)]
 
-pub use stores::Stores;
+mod construct;
+mod memory;
+
+pub use memory::Stores;

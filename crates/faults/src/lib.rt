@@ -1,4 +1,6 @@
 // Every refusal by its layer, and what a person is shown of it.
+#![tactic(auto)]
+
 ghost use Rattle.std.specs.Prelude.{◌≡◌, IfOk};
 ghost use Rattle.faults.specs.Lines.{refused_line};
 ghost use Rattle.faults.specs.Shows.{shown, token_shown, grammar_shown, check_shown, compile_shown, store_shown, table_shown, frame_shown};

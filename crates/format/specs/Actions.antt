@@ -1,5 +1,5 @@
 -- Actions: for each field, field 0 first, the value that it is set to, or none, which keeps the field.
-use Rattle.std.specs.Prelude.{◌≡◌, ℕ, ◌<◌, cond, ◌⊎◌, List, [], ◌∷◌, set, replicate, Some, None, Option, ◌==◌, slice_index_or, slice_set}
+use Rattle.std.specs.Prelude.{◌≡◌, ℕ, ◌<◌, cond, ◌⊎◌, List, [], ◌∷◌, replicate, Some, None, Option, ◌==◌, slice_index_or, slice_set}
 use Rattle.std.specs.Simd.Lanes.{zip2}
 use Rattle.format.specs.Fields.{fields, LegalValue}
 

@@ -1,4 +1,6 @@
 // The 32-bit words of which policies, frames and tables are made, and the fields that they name.
+#![tactic(auto)]
+
 ghost use Rattle.std.specs.Prelude.{◌≡◌, ◌<◌, ◌≤◌, IfSome, IfNone, ◌≢◌};
 ghost use Rattle.format.specs.Fields.{fields, field_name, range, LegalValue};
 ghost use Rattle.format.specs.Words.{value_end, kind_of, field_of, value_of};

@@ -1,4 +1,6 @@
 // Frames: read from words, asked and changed by field, compared, and written as words.
+#![tactic(auto)]
+
 ghost use Rattle.std.specs.Prelude.{◌≡◌, ℕ, ◌<◌, List, length, MatchResult, slice_index, slice_set};
 ghost use Rattle.format.specs.Fields.{fields, LegalValue};
 ghost use Rattle.format.specs.Words.{word, value_of};

@@ -1,10 +1,9 @@
 -- Words written one after another.
-use Rattle.std.proofs.Common.{◌≡◌, ℕ, suc, ◌+◌, ◌-◌, ◌<◌, ◌≤◌, Bool, true, false, List, [], ◌∷◌, ◌++◌, length, get_or, take, drop, set, sym, refl, ap, ◌∙◌, subst, append_assoc, append-nil, add-zero, arith, length-append, length-set}
+use Rattle.std.proofs.Common.{◌≡◌, ℕ, ◌+◌, ◌-◌, ◌<◌, ◌≤◌, true, false, List, [], ◌∷◌, ◌++◌, length, get_or, take, drop, set, sym, refl, ap, ◌∙◌, subst, append_assoc, append-nil, add-zero, arith, length-append, length-set}
 use Rattle.std.proofs.lemmas.List.{take_more_set, drop-set-lt, drop-drop}
-use Rattle.format.specs.Policy.{Policy}
 use Rattle.format.specs.Words.{word}
 use Rattle.grammar.specs.declared.machine.Frame.{Frame}
-use Rattle.grammar.specs.declared.machine.Frame.TheVariants.{Negation, Group}
+use Rattle.grammar.specs.declared.machine.Frame.TheVariants.{Negation}
 use Rattle.grammar.specs.Trees.{Opened, negation, group, rest}
 use Rattle.grammar.specs.Outlines.{Appended, not_words, negates, Stacked}
 

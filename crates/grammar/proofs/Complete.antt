@@ -1,16 +1,15 @@
 -- Each derivation runs through the automaton: its tree is the one that the automaton makes, and there is no other.
-use Rattle.std.proofs.Common.{◌≡◌, ℕ, ◌<◌, Bool, true, false, cond, ◌&&◌, ltb, List, [], ◌∷◌, ◌++◌, Some, None, Option, sym, refl, ap, ◌∙◌, subst, append_assoc, append-nil}
-use Rattle.std.proofs.lemmas.Bool.{lt-ltb, ltb-true, and_from, and_parts}
-use Rattle.format.specs.Fields.{fields, range, LegalValue}
-use Rattle.format.specs.Words.{value_end}
+use Rattle.std.proofs.Common.{◌≡◌, ℕ, ◌<◌, Bool, true, cond, List, [], ◌∷◌, ◌++◌, Some, None, Option, sym, refl, ap, ◌∙◌}
+use Rattle.std.proofs.lemmas.Bool.{lt-ltb, and_from}
+use Rattle.format.specs.Fields.{fields, LegalValue}
 use Rattle.format.specs.Policy.{Policy}
-use Rattle.tokens.specs.declared.tokens.Mark.TheVariants.{Plus, Semicolon, Star, Not, Open, Close, Equals, Assign}
+use Rattle.tokens.specs.declared.tokens.Mark.TheVariants.{Plus, Semicolon, Star, Close, Equals, Assign}
 use Rattle.tokens.specs.declared.tokens.Symbol.{Symbol}
-use Rattle.tokens.specs.declared.tokens.Symbol.TheVariants.{Field, Number, Drop, Pass, Cost, Mark}
+use Rattle.tokens.specs.declared.tokens.Symbol.TheVariants.{Field, Number, Mark}
 use Rattle.grammar.specs.declared.machine.Mode.{Mode}
 use Rattle.grammar.specs.declared.machine.Mode.TheVariants.{Operand, Operator, Relation, Tested, Assigned, Price}
-use Rattle.grammar.specs.Sentences.{Sum, Chain, Step, Atom, Viable}
-use Rattle.grammar.specs.Trees.{Parse, parse, Opened, negation, group, rest, negated, completed, chained, united, summed, runs, bind, begin, step, acted, expect, operand, legal}
+use Rattle.grammar.specs.Sentences.{Sum, Chain, Step, Atom}
+use Rattle.grammar.specs.Trees.{Parse, parse, Opened, negation, group, completed, chained, summed, runs, bind, begin, step, acted, expect, operand, legal}
 
 pub runs_append : (ss ts : List Symbol) (g : Parse) → runs g (ss ++ ts) ≡ bind (runs g ss) (λ h. runs h ts)
 runs_append [] ts g = refl

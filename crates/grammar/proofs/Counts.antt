@@ -1,17 +1,17 @@
 -- The words that symbols need are those of the tree and of what waits, and what is unfinished are the frames.
-use Rattle.std.proofs.Common.{◌≡◌, ℕ, ◌+◌, List, [], ◌∷◌, ◌++◌, map, length, Some, None, fold, sum_by, Option, sym, refl, ap, ◌∙◌, subst, arith, length-append}
+use Rattle.std.proofs.Common.{◌≡◌, ℕ, ◌+◌, List, [], ◌∷◌, ◌++◌, map, length, Some, None, fold, Option, refl, ap, ◌∙◌, arith, length-append}
 use lib.ListN.{length-map}
 use Rattle.std.proofs.lemmas.List.Sums.{sum_by-append, sum_by-cons}
 use Rattle.format.specs.Policy.{Policy, postfix}
 use Rattle.format.specs.Words.{word}
 use Rattle.tokens.specs.declared.tokens.Mark.TheVariants.{Plus, Semicolon, Star, Not, Open, Close, Equals, Assign}
 use Rattle.tokens.specs.declared.tokens.Symbol.{Symbol}
-use Rattle.tokens.specs.declared.tokens.Symbol.TheVariants.{Field, Number, Drop, Pass, Cost, Mark}
+use Rattle.tokens.specs.declared.tokens.Symbol.TheVariants.{Field, Cost, Mark}
 use Rattle.grammar.specs.declared.machine.Mode.{Mode}
 use Rattle.grammar.specs.declared.machine.Mode.TheVariants.{Operand, Operator, Relation, Tested, Assigned, Price}
 use Rattle.grammar.specs.Sentences.{Sum, Chain, Step, Atom, Opening, bracket, bang, settled, closed, open_after, unfinished, needs, needed}
-use Rattle.grammar.specs.Trees.{Parse, parse, Opened, negation, group}
-use Rattle.grammar.specs.Outlines.{held, frame_words, operand_words, words_of}
+use Rattle.grammar.specs.Trees.{Parse, Opened, negation, group}
+use Rattle.grammar.specs.Outlines.{held, frame_words, words_of}
 use Rattle.grammar.proofs.Complete.{Settled}
 use Rattle.grammar.proofs.Sound.{Before, Reads}
 

@@ -1,11 +1,11 @@
 -- What is decided at a symbol.
-use Rattle.std.proofs.Common.{◌≡◌, ℕ, ◌<◌, Bool, true, cond, ltb, [], ◌∷◌, Some, None, Option, sym, refl, ap, ◌∙◌}
+use Rattle.std.proofs.Common.{◌≡◌, ℕ, ◌<◌, cond, ltb, [], ◌∷◌, Some, None, sym, ap, ◌∙◌}
 use Rattle.std.proofs.lemmas.Bool.{lt-ltb, and_from}
 use Rattle.format.specs.Fields.{fields, LegalValue}
 use Rattle.format.specs.Policy.{Policy}
 use Rattle.format.specs.Words.{word, value_end}
 use Rattle.tokens.specs.declared.tokens.Symbol.TheVariants.{Number}
-use Rattle.grammar.specs.Trees.{Act, operand, value, legal}
+use Rattle.grammar.specs.Trees.{operand, value, legal}
 
 pub legal_decided : (f n : ℕ) (make : ℕ → Policy) → f < fields → LegalValue f n → value (legal f) make (Number n) ≡ Some (operand (make n))
 legal_decided f n make h k = ap (λ b. cond b (Some (operand (make n))) None) (and_from _ _ (lt-ltb _ _ h) (lt-ltb _ _ k))

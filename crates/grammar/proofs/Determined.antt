@@ -1,6 +1,6 @@
 -- A text and the room for its words have one answer.
-use Rattle.std.proofs.Common.{◌≡◌, ℕ, ◌+◌, ◌-◌, ◌<◌, ◌≤◌, ◌⊎◌, List, [], ◌∷◌, ◌++◌, length, take, drop, Some, None, Ok, Err, Option, Result, sym, refl, ap, ◌∙◌, subst, inl, inr, ⊎_elim, arith}
-use Rattle.std.proofs.lemmas.List.{drop_all, take_all, take-append-le, take-append-drop, length_push}
+use Rattle.std.proofs.Common.{◌≡◌, ℕ, ◌≤◌, ◌⊎◌, List, [], ◌∷◌, ◌++◌, length, take, drop, Some, None, Ok, Err, Result, sym, refl, ap, ◌∙◌, subst, inl, inr, ⊎_elim, arith}
+use Rattle.std.proofs.lemmas.List.{drop_all, take_all, take-append-le, take-append-drop}
 use Rattle.std.proofs.lemmas.Bool.{cases_lt}
 use Rattle.format.specs.Limits.{nesting_limit}
 use Rattle.format.specs.Policy.{Policy, postfix}
@@ -10,8 +10,8 @@ use Rattle.faults.specs.declared.layers.TokenFault.{TokenFault}
 use Rattle.tokens.specs.declared.tokens.Symbol.{Symbol}
 use Rattle.tokens.specs.Lexing.{Lexeme, Cut, cut, front, Starts, start, ahead}
 use Rattle.tokens.specs.Symbols.{judged}
-use Rattle.grammar.specs.Sentences.{Sum, Viable, unfinished, needed, needs}
-use Rattle.grammar.specs.Reading.{SymbolAt, NoSymbolAt, Lexes, Accepted, Stops, Refused, Written, Answers}
+use Rattle.grammar.specs.Sentences.{Sum, unfinished}
+use Rattle.grammar.specs.Reading.{SymbolAt, NoSymbolAt, Lexes, Accepted, Stops, Refused, Written}
 use Rattle.grammar.proofs.Complete.{tree_unique}
 use Rattle.grammar.proofs.Pushing.{needed_push}
 use Rattle.grammar.proofs.Sound.{shorter}

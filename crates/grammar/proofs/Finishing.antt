@@ -1,5 +1,5 @@
 -- The end of the text, and the whole of it.
-use Rattle.std.proofs.Common.{◌≡◌, ℕ, zero, suc, ◌+◌, ◌-◌, ◌<◌, ◌≤◌, Bool, true, false, eqb, List, [], ◌∷◌, ◌++◌, length, take, drop, Some, None, Ok, Err, Option, Result, sym, refl, ap, ◌∙◌, subst, arith, length-append}
+use Rattle.std.proofs.Common.{◌≡◌, ℕ, zero, suc, ◌+◌, ◌≤◌, true, false, eqb, List, [], ◌++◌, length, take, Some, None, sym, refl, ap, ◌∙◌, subst, arith, length-append}
 use Rattle.std.proofs.lemmas.List.{nil_from_length}
 use Rattle.std.proofs.lemmas.Bool.{eqb-true}
 use Rattle.format.specs.Limits.{nesting_limit}
@@ -9,17 +9,17 @@ use Rattle.grammar.specs.declared.machine.Frame.{Frame}
 use Rattle.grammar.specs.declared.machine.Machine.{Machine}
 use Rattle.grammar.specs.declared.machine.Mode.{Mode}
 use Rattle.grammar.specs.declared.machine.Mode.TheVariants.{Operand, Operator, Relation, Tested, Assigned, Price}
-use Rattle.grammar.specs.Sentences.{Sum, unfinished, needed}
-use Rattle.grammar.specs.Trees.{Parse, parse, Opened, runs, begin, summed}
-use Rattle.grammar.specs.Outlines.{Outline, Stacked, Appended, words_of, held, frame_words, operand_words, level_of, level_words}
+use Rattle.grammar.specs.Sentences.{Sum, unfinished}
+use Rattle.grammar.specs.Trees.{Parse, parse, begin, summed}
+use Rattle.grammar.specs.Outlines.{Appended, words_of, held, level_of, level_words}
 use Rattle.grammar.specs.Reading.{Accepted}
-use Rattle.grammar.specs.Standing.{Stands, final, Finished}
+use Rattle.grammar.specs.Standing.{Stands, final}
 use Rattle.grammar.proofs.Appending.{appended_then, nothing_appended}
 use Rattle.grammar.proofs.Complete.{sum_runs}
 use Rattle.grammar.proofs.Counts.{sum_needs}
 use Rattle.grammar.proofs.Outlining.{stacked_depth}
 use Rattle.grammar.proofs.Ready.{summed_words}
-use Rattle.grammar.proofs.Sound.{Reads, run_reads, reads_viable, ends}
+use Rattle.grammar.proofs.Sound.{run_reads, reads_viable, ends}
 
 nothing_open : (n : ℕ) → length (unfinished (take n [])) ≤ nesting_limit
 nothing_open zero = omega arith

@@ -1,14 +1,14 @@
 -- What each action does to the stack and to the outline.
-use Rattle.std.proofs.Common.{◌≡◌, ℕ, suc, ◌+◌, ◌<◌, ◌≤◌, ◌≢◌, List, [], ◌∷◌, ◌++◌, length, get_or, set, Some, None, Option, sym, refl, ap, ◌∙◌, subst, add-one, arith, length-append, length-set, get_or-set_other, get_or-set_same}
+use Rattle.std.proofs.Common.{◌≡◌, ℕ, suc, ◌+◌, ◌<◌, ◌≤◌, ◌≢◌, List, [], ◌∷◌, length, set, Some, Option, sym, ap, ◌∙◌, subst, add-one, arith, length-set, get_or-set_other, get_or-set_same}
 use Rattle.format.specs.Limits.{nesting_limit}
-use Rattle.format.specs.Policy.{Policy, postfix}
+use Rattle.format.specs.Policy.{Policy}
 use Rattle.grammar.specs.declared.machine.Frame.{Frame}
-use Rattle.grammar.specs.declared.machine.Frame.TheVariants.{Negation, Group}
+use Rattle.grammar.specs.declared.machine.Frame.TheVariants.{Negation}
 use Rattle.grammar.specs.declared.machine.Machine.{Machine}
 use Rattle.grammar.specs.declared.machine.Mode.TheVariants.{Operand, Operator}
-use Rattle.grammar.specs.Trees.{Act, Parse, parse, Opened, negation, group, rest, completed, act}
+use Rattle.grammar.specs.Trees.{Act, Parse, parse, Opened, negation, group, rest, completed}
 use Rattle.grammar.proofs.Appending.{nothing_appended}
-use Rattle.grammar.specs.Outlines.{Performs, Ready, Outline, Stacked, frame_of, level_of, not_words, Appended}
+use Rattle.grammar.specs.Outlines.{Performs, Ready, Outline, Stacked, frame_of, level_of, Appended}
 
 pub stacked_depth : (fs : List Opened) (stack : List Frame) (depth : ℕ) → Stacked fs stack depth → depth ≡ length fs
 stacked_depth [] stack depth s = s

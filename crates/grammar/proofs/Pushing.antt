@@ -1,5 +1,5 @@
 -- One more symbol: accepted, or refused for the first reason that there is.
-use Rattle.std.proofs.Common.{◌≡◌, ℕ, suc, ◌+◌, ◌<◌, ◌≤◌, Bool, true, false, ltb, ◌⊎◌, List, [], ◌∷◌, ◌++◌, length, take, Some, None, Ok, Err, fold, sum_by, Option, Result, sym, refl, ap, ◌∙◌, subst, inl, inr, ⊎_elim, arith, length-append}
+use Rattle.std.proofs.Common.{◌≡◌, ℕ, suc, ◌+◌, ◌<◌, ◌≤◌, true, false, ltb, List, [], ◌∷◌, ◌++◌, length, take, Some, None, Err, Option, sym, refl, ap, ◌∙◌, subst, ⊎_elim, arith, length-append}
 use Rattle.std.proofs.lemmas.List.{take-append-le, take_all, length_push}
 use Rattle.std.proofs.lemmas.List.Sums.{sum_by_push, fold_push}
 use Rattle.std.proofs.lemmas.Bool.{lt-ltb, cases_lt, cases_Bool}
@@ -14,13 +14,13 @@ use Rattle.grammar.specs.declared.machine.Action.TheVariants.{Expect, Operand, N
 use Rattle.grammar.specs.declared.machine.Frame.{Frame}
 use Rattle.grammar.specs.declared.machine.Machine.{Machine}
 use Rattle.grammar.specs.Sentences.{Viable, Opening, bracket, bang, settled, closed, open_after, unfinished, needs, needed}
-use Rattle.grammar.specs.Trees.{Act, expect, operand, negate, opening, starring, chaining, adding, closing, Parse, Opened, decision, nested, act, acted, step, bind, runs, begin}
-use Rattle.grammar.specs.Outlines.{DecidesAct, Outline, Stacked, Appended, Possible, Performs, Ready, opens, words_of, extra}
-use Rattle.grammar.specs.Reading.{Stops, unexpected, too_deep, no_room}
-use Rattle.grammar.specs.Standing.{Stands, Reserved, Pushed}
+use Rattle.grammar.specs.Trees.{Act, expect, operand, negate, opening, starring, chaining, adding, closing, Parse, Opened, decision, nested, act, acted, bind, runs, begin}
+use Rattle.grammar.specs.Outlines.{DecidesAct, Stacked, Appended, Possible, Performs, Ready, opens, words_of, extra}
+use Rattle.grammar.specs.Reading.{Stops, too_deep, no_room}
+use Rattle.grammar.specs.Standing.{Stands, Reserved}
 use Rattle.grammar.proofs.Appending.{appended_then}
 use Rattle.grammar.proofs.Complete.{runs_append}
-use Rattle.grammar.proofs.Counts.{reads_needs, reads_depth, owes}
+use Rattle.grammar.proofs.Counts.{reads_needs, reads_depth}
 use Rattle.grammar.proofs.Outlining.{stacked_depth}
 use Rattle.grammar.proofs.Ready.{ready, words_grow}
 use Rattle.grammar.proofs.Sound.{Reads, run_reads, reads_viable, stuck}

@@ -8,7 +8,7 @@ use Rattle.tokens.specs.declared.tokens.Symbol.{Symbol}
 use Rattle.tokens.specs.declared.tokens.Symbol.TheVariants.{Field, Number, Drop, Pass, Cost, Mark}
 use Rattle.grammar.specs.declared.machine.Mode.{Mode}
 use Rattle.grammar.specs.declared.machine.Mode.TheVariants.{Operand, Operator, Relation, Tested, Assigned, Price}
-use Rattle.grammar.specs.Trees.{Act, expect, operand, negate, opening, starring, chaining, adding, closing, Parse, parse, Opened, negation, group, rest, negated, completed, closes, chained, united, summed, act, first, later, relation, value, legal, decision, nested}
+use Rattle.grammar.specs.Trees.{Act, expect, operand, negate, opening, starring, chaining, adding, closing, Parse, parse, Opened, negation, group, rest, negated, closes, chained, united, summed, act, first, later, relation, value, legal, decision, nested}
 use Rattle.grammar.specs.Outlines.{held, frame_words, operand_words, words_of, extra, Idle, Ready, waits, level_of, level_words, chain_words, sum_words, not_words, outer, opens}
 use Rattle.grammar.proofs.Complete.{Settled}
 use Rattle.grammar.proofs.Sound.{Reads}

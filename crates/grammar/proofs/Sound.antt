@@ -1,6 +1,6 @@
 -- What the automaton has read: a part of a sentence, which some end completes.
-use Rattle.std.proofs.Common.{◌≡◌, ℕ, ◌<◌, Bool, true, false, cond, ◌&&◌, ltb, List, [], ◌∷◌, ◌++◌, Some, None, Option, sym, refl, ap, ◌∙◌, subst, append_assoc, append-nil, arith, lit<}
-use Rattle.std.proofs.lemmas.Bool.{lt-ltb, ltb-true, and_from, and_parts}
+use Rattle.std.proofs.Common.{◌≡◌, ℕ, ◌<◌, Bool, true, false, cond, ltb, List, [], ◌∷◌, ◌++◌, Some, None, Option, sym, refl, ap, ◌∙◌, subst, append_assoc, append-nil, arith, lit<}
+use Rattle.std.proofs.lemmas.Bool.{ltb-true, and_parts}
 use Rattle.format.specs.Fields.{fields, range, LegalValue}
 use Rattle.format.specs.Words.{value_end}
 use Rattle.format.specs.Policy.{Policy}
@@ -10,8 +10,8 @@ use Rattle.tokens.specs.declared.tokens.Symbol.TheVariants.{Field, Number, Drop,
 use Rattle.grammar.specs.declared.machine.Mode.{Mode}
 use Rattle.grammar.specs.declared.machine.Mode.TheVariants.{Operand, Operator, Relation, Tested, Assigned, Price}
 use Rattle.grammar.specs.Sentences.{Sum, Chain, Step, Atom, Viable}
-use Rattle.grammar.specs.Trees.{Act, Parse, parse, Opened, negation, group, rest, negated, completed, closes, chained, united, summed, runs, bind, begin, step, acted, act, expect, operand, legal, first, later, relation, value, decision, nested}
-use Rattle.grammar.proofs.Complete.{Settled, settled_completes, sum_runs, runs_append}
+use Rattle.grammar.specs.Trees.{Act, Parse, parse, Opened, negation, group, completed, chained, united, summed, runs, bind, begin, step, acted, act, legal, value}
+use Rattle.grammar.proofs.Complete.{Settled, sum_runs, runs_append}
 
 -- these symbols stand before an operand: the sum and the chain that wait are sentences of theirs, and each frame is a ! or a (
 pub data Before : List Symbol → Option Policy → Option Policy → List Opened → Type 0 where

@@ -1,16 +1,13 @@
 -- What the lexer hands out, and what the end of the text shows.
-use Rattle.std.proofs.Common.{◌≡◌, ℕ, ◌-◌, ◌<◌, ◌≤◌, List, [], ◌∷◌, ◌++◌, length, Some, None, Ok, Err, Option, Result, sym, refl, ap, ◌∙◌, subst, arith}
+use Rattle.std.proofs.Common.{◌≡◌, ℕ, ◌≤◌, List, length, Some, Ok, Err, Option, Result, sym, ap, ◌∙◌, subst, arith}
 use Rattle.faults.specs.declared.layers.GrammarFault.{GrammarFault}
-use Rattle.faults.specs.declared.layers.GrammarFault.TheVariants.{Unexpected}
 use Rattle.faults.specs.declared.layers.TokenFault.{TokenFault}
-use Rattle.format.specs.Policy.{Policy}
 use Rattle.tokens.specs.declared.tokens.Placed.{Placed}
 use Rattle.tokens.specs.declared.tokens.Symbol.{Symbol}
 use Rattle.tokens.specs.Lexing.{says, start, Next}
 use Rattle.tokens.specs.Symbols.{judged}
 use Rattle.grammar.specs.declared.machine.Machine.{Machine}
-use Rattle.grammar.specs.Sentences.{Sum}
-use Rattle.grammar.specs.Reading.{SymbolAt, NoSymbolAt, Lexes, Stops, Refused, Written, Answers}
+use Rattle.grammar.specs.Reading.{SymbolAt, NoSymbolAt, Lexes, Stops, Refused, Answers}
 use Rattle.grammar.specs.Standing.{Stands, Finished}
 use Rattle.grammar.proofs.Complete.{tree_unique}
 use Rattle.grammar.proofs.Finishing.{accepted}

@@ -1,11 +1,11 @@
 -- When a text is accepted, and where and why it is refused.
-use Rattle.std.specs.Prelude.{◌≡◌, ℕ, ◌-◌, ◌<◌, ◌≤◌, min, ◌⊎◌, List, [], ◌∷◌, ◌++◌, length, take, drop, None, Ok, Err, Result}
+use Rattle.std.specs.Prelude.{◌≡◌, ℕ, ◌-◌, ◌<◌, ◌≤◌, min, List, [], ◌∷◌, ◌++◌, length, take, drop, None, Ok, Err, Result}
 use Rattle.format.specs.Limits.{nesting_limit, words_limit}
 use Rattle.format.specs.Policy.{Policy, postfix}
 use Rattle.faults.specs.declared.layers.TokenFault.{TokenFault}
 use Rattle.faults.specs.declared.layers.TokenFault.TheVariants.{NoToken}
 use Rattle.faults.specs.declared.layers.GrammarFault.{GrammarFault}
-use Rattle.faults.specs.declared.layers.GrammarFault.TheVariants.{Token, Unexpected, TooDeep, NoRoom, LongText}
+use Rattle.faults.specs.declared.layers.GrammarFault.TheVariants.{Token, Unexpected, TooDeep, NoRoom}
 use Rattle.tokens.specs.declared.tokens.Symbol.{Symbol}
 use Rattle.tokens.specs.Lexing.{Lexeme, front, Starts, start, ahead}
 use Rattle.tokens.specs.Symbols.{judged}

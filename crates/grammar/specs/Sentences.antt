@@ -1,7 +1,6 @@
 -- Policy text as a language: which symbols are a sentence, and of which policy.
-use Rattle.std.specs.Prelude.{ℕ, ◌<◌, ◌≤◌, List, [], ◌∷◌, ◌++◌, length, fold, sum_by}
+use Rattle.std.specs.Prelude.{ℕ, ◌<◌, List, [], ◌∷◌, ◌++◌, fold, sum_by}
 use Rattle.format.specs.Fields.{fields, LegalValue}
-use Rattle.format.specs.Limits.{nesting_limit, words_limit}
 use Rattle.format.specs.Words.{value_end}
 use Rattle.format.specs.Policy.{Policy}
 use Rattle.tokens.specs.declared.tokens.Mark.TheVariants.{Plus, Semicolon, Star, Not, Open, Close, Equals, Assign}

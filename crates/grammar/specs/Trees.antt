@@ -1,5 +1,5 @@
 -- An automaton that reads symbols into trees, of which the program's automaton keeps the outline.
-use Rattle.std.specs.Prelude.{◌≡◌, ℕ, ◌<◌, Bool, true, false, cond, ◌&&◌, ltb, List, [], ◌∷◌, ◌++◌, Some, None, Option, nat_lt}
+use Rattle.std.specs.Prelude.{ℕ, Bool, true, false, cond, ◌&&◌, ltb, List, [], ◌∷◌, Some, None, Option, nat_lt}
 use Rattle.format.specs.Fields.{fields, range}
 use Rattle.format.specs.Words.{value_end}
 use Rattle.format.specs.Policy.{Policy}

@@ -1,4 +1,6 @@
 // The symbols of a policy text read by an automaton that writes the policy's words.
+#![tactic(auto)]
+
 mod decide;
 mod machine;
 mod push;

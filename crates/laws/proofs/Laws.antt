@@ -1,18 +1,14 @@
 -- The theorems, from the theory of diagrams. Assumes nothing.
-use mathlib.Core.Path.{◌≡◌, refl, sym, ap, subst, ◌∙◌}
+use mathlib.Core.Path.{sym, ap, subst, ◌∙◌}
 use mathlib.Core.List.{List}
-use mathlib.Core.Logic.{◌≢◌}
-use Prim.Native.Nat.{ℕ, suc, ◌<◌, ◌≤◌}
-use lib.ListN.{length, get_or}
-use Rattle.format.specs.Actions.{apply}
-use Rattle.format.specs.Policy.{Policy, Predicate, Legal}
-use Rattle.weights.specs.Weights.{Ops, Laws, Weight}
+use Prim.Native.Nat.{ℕ}
+use Rattle.format.specs.Policy.{Policy, Legal}
+use Rattle.weights.specs.Weights.{Ops, Laws}
 use Rattle.weights.specs.Order.{Lub}
-use Rattle.meaning.specs.Leaves.{Action, Frame}
-use Rattle.meaning.specs.Diagrams.{Diagram, weigh, narrow, known, Formed}
+use Rattle.meaning.specs.Leaves.{Frame}
+use Rattle.meaning.specs.Diagrams.{Diagram, weigh, known}
 use Rattle.meaning.specs.Constructions.{join, choose, sequence, negate, prefix, Compiles}
-use Rattle.meaning.specs.Frames.{InRange, Spare, Named, ToldApart}
-use Rattle.meaning.specs.Meanings.{Meaning, Alike, Means}
+use Rattle.meaning.specs.Frames.{InRange, Spare}
 use Rattle.meaning.proofs.Narrowing.{formed_weighted, weigh_weight, agrees_known, weigh_narrows, extent_narrows}
 use Rattle.meaning.proofs.Making.{formed_narrows, make_formed, make_weighs_yes, make_weighs_no, make_extent}
 use Rattle.meaning.proofs.Canonical.{canonical, same_weights_same}
@@ -21,7 +17,7 @@ use Rattle.meaning.proofs.Sequencing.{Prefixed, prefixed, Sequenced, sequenced}
 use Rattle.meaning.proofs.Simple.{Negated, negated}
 use Rattle.meaning.proofs.Starring.{sequence_lub, star_means, round_good, rounds_end}
 use Rattle.meaning.proofs.Compiling.{means_alike, Compiled, compiled, compiles, compiles_once, named_in_either, uses_first, uses_second, spare_either}
-use Rattle.laws.specs.Claims.{Sound, OneMeaning, Narrowed, NarrowKeeps, Made, MakeKeeps, Canonical, JoinIsUnion, Chooses, ChooseIsChoice, PrefixGoesBefore, SequenceIsSequence, NegateIsNot, Stars, StarEnds, DiagramOf, DiagramsGiveMeanings, SameMeaning, SameExactly, DiagramsDecide}
+use Rattle.laws.specs.Claims.{OneMeaning, NarrowKeeps, MakeKeeps, Canonical, JoinIsUnion, ChooseIsChoice, PrefixGoesBefore, SequenceIsSequence, NegateIsNot, StarEnds, DiagramOf, DiagramsGiveMeanings, DiagramsDecide}
 
 -- the diagram of a legal policy
 of_policy : {o : Ops} (L : Laws o) (p q : Policy) → Legal p → (d : Diagram) → Compiles o p d → Compiled o (named_in_either p q) p d

@@ -8,7 +8,7 @@ use Rattle.weights.specs.Weights.{Ops, Laws, Weight}
 use Rattle.meaning.specs.Leaves.{Action, Frame, ActionFormed}
 use Rattle.meaning.specs.Diagrams.{Diagram, weigh, narrow, make, Tests, After, Formed, extent}
 use Rattle.meaning.specs.Constructions.{join, choose, prefix, sequence, negate, round, Compiles}
-use Rattle.meaning.specs.Frames.{InRange, Spare, Named, ToldApart}
+use Rattle.meaning.specs.Frames.{Spare, Named, ToldApart}
 use Rattle.meaning.specs.Meanings.{Meaning, Everywhere, Alike, IsUnion, IsSequence, IsNot, IsStar, Means}
 
 -- a legal policy within the limit of words

@@ -1,4 +1,6 @@
 // What holds of policies and diagrams, for every lawful weight kind: each function stands for a theorem.
+#![tactic(auto)]
+
 ghost use Rattle.std.specs.Prelude.{◌≢◌, ℕ};
 ghost use Rattle.format.specs.Policy.{Policy};
 ghost use Rattle.weights.specs.Weights.{Ops, Laws};

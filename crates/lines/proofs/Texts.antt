@@ -1,5 +1,5 @@
 -- Texts put together from pieces.
-use Rattle.std.proofs.Common.{◌≡◌, ℕ, cond, ◌&&◌, eqb, ltb, List, [], ◌∷◌, ◌++◌, codes, decimal, sym, ap, append_assoc, append-nil}
+use Rattle.std.proofs.Common.{◌≡◌, ℕ, cond, ◌&&◌, eqb, ltb, List, [], ◌++◌, codes, decimal, sym, ap, append_assoc, append-nil}
 use Rattle.format.specs.Fields.{fields}
 use Rattle.format.specs.Words.{kind_of, field_of}
 use Rattle.lines.specs.Lines.{setting, weight_said, head_said, end_said, table_word_said, frame_word_said}

@@ -1,5 +1,5 @@
 -- The record of a replay as a technician reads it: what each word says, and the lines made of it.
-use Rattle.std.specs.Prelude.{ℕ, cond, ◌&&◌, List, [], ◌∷◌, ◌++◌, length, codes, decimal, ◌==◌, nat_lt}
+use Rattle.std.specs.Prelude.{ℕ, cond, ◌&&◌, List, ◌++◌, length, codes, decimal, ◌==◌, nat_lt}
 use Rattle.std.specs.List.{flat_map}
 use Rattle.format.specs.Fields.{fields, field_name}
 use Rattle.format.specs.Words.{kind_of, field_of, value_of}

@@ -1,4 +1,6 @@
 // What words say to a person, appended to a record.
+#![tactic(auto)]
+
 ghost use Rattle.std.specs.Prelude.{◌≡◌, ◌++◌, codes, decimal, OnOk};
 ghost use Rattle.std.specs.List.{flat_map};
 ghost use Rattle.lines.specs.Lines.{setting, head_said, end_said, weight_said, table_word_said, frame_word_said, table_lines, spaced_hex, words_line};

@@ -9,8 +9,7 @@ use Rattle.tables.specs.Rows.{Row}
 use Rattle.tables.specs.Emits.{holds, replaced, same, joins, emits}
 use Rattle.meaning.specs.Decide.{choice, decide, equal_lists}
 use Rattle.meaning.specs.Leaves.{Action, Frame, Cell, Each, CellFormed, LeafFormed, gather}
-use Rattle.meaning.specs.Diagrams.{Diagram, Leaf, Node, reach, weigh, Formed, emits as gives}
-use Rattle.meaning.specs.Frames.{InRange}
+use Rattle.meaning.specs.Diagrams.{Diagram, Leaf, Node, reach, Formed, emits as gives}
 use Rattle.listing.specs.Rows.{rows_of, row_of, emission_of, sets_from}
 use Rattle.listing.specs.Tables.{FirstMatch, EmitsWhatTheDiagramGives, reached, place_of}
 use Rattle.listing.proofs.Leaves.{eqb_yes, eqb_no, first_match}

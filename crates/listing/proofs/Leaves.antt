@@ -4,13 +4,12 @@ use mathlib.Core.List.{map-append}
 use lib.Dec.{eqb_refl}
 use lib.ListN.{length-map}
 use Rattle.std.specs.List.{AllByRecursion as All}
-use Rattle.tables.specs.Rows.{Pair, Row}
 use Rattle.tables.specs.Emits.{holds}
 use Rattle.meaning.specs.Decide.{choice, decide}
 use Rattle.meaning.specs.Leaves.{Frame}
 use Rattle.meaning.specs.Diagrams.{Diagram, Leaf, Node, reach}
-use Rattle.listing.specs.Rows.{Placed, behind, leaves_of, row_of, rows_of}
-use Rattle.listing.specs.Tables.{passed, reached, place_of, FirstMatch, FirstMatchIsTheLeafReached}
+use Rattle.listing.specs.Rows.{Placed, behind, leaves_of, row_of}
+use Rattle.listing.specs.Tables.{passed, reached, place_of, FirstMatchIsTheLeafReached}
 use Rattle.listing.proofs.Lists.{all_append, all_of, all_map}
 
 is_true : (b : Bool) → T b → b ≡ true

@@ -1,16 +1,15 @@
 -- The rows of a well-formed diagram are legal, and a short list counts what it lists. Assumes nothing.
-use Rattle.std.proofs.Common.{◌≡◌, ℕ, zero, suc, ◌+◌, ◌<◌, ◌≤◌, List, [], ◌∷◌, ◌++◌, map, length, get_or, None, sym, refl, ap, ◌∙◌, subst, zero-le, zero-add, arith, length-append}
+use Rattle.std.proofs.Common.{◌≡◌, ℕ, suc, ◌+◌, ◌<◌, ◌≤◌, List, [], ◌∷◌, map, length, get_or, None, sym, refl, subst, zero-le, zero-add, arith, length-append}
 use lib.ListN.{length-map}
 use Rattle.std.specs.List.{flat_map, AllByRecursion as All}
-use Rattle.format.specs.Fields.{fields}
 use Rattle.format.specs.Words.{value_end, word}
 use Rattle.format.specs.Actions.{LegalSet}
 use Rattle.weights.specs.Weights.{Ops}
-use Rattle.tables.specs.Rows.{Pair, Emission, Row, emission_words, row_words, table_words, LegalPairs, LegalEmission, LegalRow, LegalRows, LegalTable}
-use Rattle.meaning.specs.Leaves.{Cell, Each, CellFormed, LeafFormed, ActionFormed}
+use Rattle.tables.specs.Rows.{Pair, Emission, Row, emission_words, row_words, table_words, LegalPairs, LegalEmission, LegalRow, LegalRows}
+use Rattle.meaning.specs.Leaves.{Cell, Each, CellFormed, LeafFormed}
 use Rattle.meaning.specs.Diagrams.{Diagram, Leaf, Node, Tests, Formed}
 use Rattle.listing.specs.Rows.{Placed, behind, leaves_of, row_of, rows_of, emission_of}
-use Rattle.listing.specs.Tables.{Sized, ListedLegally, ListsLegally, ShortLists}
+use Rattle.listing.specs.Tables.{ListedLegally, ListsLegally, ShortLists}
 use Rattle.listing.proofs.Lists.{all_append, all_imp, all_both, all_map, all_unmap}
 use Rattle.listing.proofs.Sets.{legal_sets}
 

@@ -1,7 +1,7 @@
 -- The sets of an action, and what they do to a frame. Assumes nothing.
-use Rattle.std.proofs.Common.{◌≡◌, ℕ, zero, suc, ◌+◌, ◌<◌, ◌≤◌, List, [], ◌∷◌, length, get_or, set, Some, None, Option, sym, refl, ap, ◌∙◌, subst, add-zero, arith}
-use Rattle.format.specs.Fields.{fields, LegalValue}
-use Rattle.format.specs.Actions.{apply, LegalSet, LegalSets}
+use Rattle.std.proofs.Common.{◌≡◌, ℕ, suc, ◌+◌, ◌<◌, ◌≤◌, [], ◌∷◌, length, get_or, set, Some, None, refl, ap, ◌∙◌, subst, add-zero, arith}
+use Rattle.format.specs.Fields.{fields}
+use Rattle.format.specs.Actions.{apply, LegalSet}
 use Rattle.tables.specs.Rows.{LegalPairs}
 use Rattle.tables.specs.Emits.{replaced}
 use Rattle.meaning.specs.Leaves.{Action, Frame}

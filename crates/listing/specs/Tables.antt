@@ -1,7 +1,6 @@
 -- What the table of a diagram is and does.
-use Rattle.std.specs.Prelude.{◌≡◌, ℕ, ◌+◌, ◌<◌, ◌≤◌, true, false, List, [], ◌∷◌, ◌++◌, length, slice_index}
+use Rattle.std.specs.Prelude.{◌≡◌, ℕ, ◌+◌, ◌≤◌, true, false, List, [], ◌∷◌, ◌++◌, length, slice_index}
 use Rattle.std.specs.List.{AllByRecursion as All}
-use Rattle.format.specs.Words.{value_end}
 use Rattle.weights.specs.Weights.{Ops}
 use Rattle.tables.specs.Rows.{Pair, Row, LegalRows, LegalTable, table_words}
 use Rattle.tables.specs.Emits.{holds, emits}

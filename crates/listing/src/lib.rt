@@ -1,4 +1,6 @@
 // The table that lists a diagram: its leaves as rows, yes before no.
+#![tactic(auto)]
+
 ghost use Rattle.std.specs.Prelude.{◌≡◌, ◌+◌, ◌<◌, ◌≤◌, IfSome, IfNone, ◌≢◌};
 ghost use Rattle.format.specs.Words.{word, value_end};
 ghost use Rattle.tables.specs.Rows.{LegalRows, table_words};

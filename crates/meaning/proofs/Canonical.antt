@@ -1,12 +1,12 @@
 -- The frame that tells two diagrams apart, in range. Assumes nothing.
-use Rattle.std.proofs.Common.{◌≡◌, ℕ, zero, suc, ◌+◌, ◌<◌, ◌≤◌, ◌≢◌, ◌⊎◌, List, [], ◌∷◌, length, get_or, Some, None, Option, sym, refl, ap, ◌∙◌, subst, ap₂, inl, inr, arith}
+use Rattle.std.proofs.Common.{◌≡◌, ℕ, zero, suc, ◌+◌, ◌<◌, ◌≤◌, ◌≢◌, List, [], ◌∷◌, length, get_or, Some, None, Option, sym, refl, ◌∙◌, subst, arith}
 use native.Mathlib.Decide.{dec_lt}
 use lib.LanesLaws.{length-zip2}
 use Rattle.format.specs.Fields.{fields, range, LegalValue}
-use Rattle.format.specs.Actions.{apply, replaced, LegalSet, LegalSets}
-use Rattle.weights.specs.Weights.{Ops, Weight, Laws}
-use Rattle.meaning.specs.Leaves.{Action, Frame, Cell, Each, ActionFormed}
-use Rattle.meaning.specs.Diagrams.{Diagram, Leaf, Node, equal_diagrams, weigh, Tests, SetsOf, Cells, Sets, Formed, extent}
+use Rattle.format.specs.Actions.{apply, replaced, LegalSet}
+use Rattle.weights.specs.Weights.{Ops, Laws}
+use Rattle.meaning.specs.Leaves.{Action, Frame, ActionFormed}
+use Rattle.meaning.specs.Diagrams.{Diagram, Leaf, Node, equal_diagrams, weigh, SetsOf, Cells, Formed, extent}
 use Rattle.weights.specs.Order.{In}
 use Rattle.meaning.specs.Frames.{InRange, Spare, Named, ToldApart}
 use Rattle.meaning.proofs.Gathering.{each_map}

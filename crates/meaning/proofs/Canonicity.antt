@@ -1,9 +1,9 @@
 -- Formed diagrams that differ are told apart by a frame. Assumes nothing.
-use Rattle.std.proofs.Common.{◌≡◌, ℕ, zero, suc, ◌+◌, ◌<◌, ◌≤◌, ◌≢◌, ◌⊎◌, List, [], ◌∷◌, ◌++◌, map, length, get_or, set, Some, None, Option, sym, refl, ap, ◌∙◌, subst, ap₂, subst₂, inl, inr, true≢false, arith}
+use Rattle.std.proofs.Common.{◌≡◌, ℕ, zero, suc, ◌+◌, ◌<◌, ◌≤◌, ◌≢◌, ◌⊎◌, List, [], ◌∷◌, length, get_or, set, Some, None, Option, sym, refl, ap, ◌∙◌, subst, ap₂, subst₂, inl, inr, arith}
 use Rattle.std.proofs.lemmas.List.{length-set, get_or-set_same, get_or-set_other}
-use Rattle.format.specs.Fields.{fields, range, LegalValue}
-use Rattle.format.specs.Actions.{apply, replaced, LegalSet}
-use Rattle.weights.specs.Weights.{Ops, Weight, Laws}
+use Rattle.format.specs.Fields.{fields, LegalValue}
+use Rattle.format.specs.Actions.{apply, replaced}
+use Rattle.weights.specs.Weights.{Ops, Laws}
 use Rattle.meaning.specs.Decide.{choice, decide, equal_lists}
 use Rattle.meaning.specs.Leaves.{Action, Frame, Cell, Each, gather, ActionFormed, LeafFormed}
 use Rattle.meaning.specs.Diagrams.{Diagram, Leaf, Node, equal_diagrams, emits, weigh, narrow, Tests, SetsOf, Sets, After, Unlike, Formed, extent}
@@ -11,7 +11,7 @@ use Rattle.meaning.specs.Constructions.{at, off}
 use Rattle.weights.specs.Order.{In}
 use Rattle.walks.proofs.Walks.{has, without, without_length, without_rest}
 use Rattle.meaning.proofs.Gathering.{choice_yes, choice_no, each_map, Among, among_each, equal_actions, value, Telling, leaves_differ}
-use Rattle.meaning.proofs.Narrowing.{tests_map, tests_both, sets_map, sets_both, Weighted, formed_weighted}
+use Rattle.meaning.proofs.Narrowing.{tests_map, tests_both, sets_map, sets_both, formed_weighted}
 use Rattle.meaning.proofs.Making.{leaf_tidy}
 use Rattle.meaning.proofs.Splitting.{after_unlike, Rooted, Unrooted, Splitting, rooted, unrooted, splitting, Heads, leaves, split, heads, split_shrinks, rooted_either, formed_tests_legal, at_tests, off_tests, at_formed, off_formed, at_greater, off_after, at_unlike, at_sets, off_cells, at_weighs, off_weighs}
 

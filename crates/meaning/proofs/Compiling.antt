@@ -1,21 +1,20 @@
 -- The diagram of a policy gives what the policy means. Assumes nothing.
-use Rattle.std.proofs.Common.{◌≡◌, ℕ, zero, suc, ◌+◌, ◌<◌, ◌≤◌, ◌≢◌, ◌⊎◌, List, [], ◌∷◌, ◌++◌, length, get_or, sym, refl, ap, ◌∙◌, subst, ap₂, inl, inr, arith, length-append}
+use Rattle.std.proofs.Common.{◌≡◌, ℕ, zero, suc, ◌+◌, ◌<◌, ◌≤◌, List, [], ◌∷◌, ◌++◌, length, sym, refl, ap, ◌∙◌, subst, ap₂, inl, inr, arith, length-append}
 use mathlib.Core.Path.{fun_ext}
-use native.Mathlib.Decide.{dec_le}
-use Rattle.format.specs.Fields.{fields, range, LegalValue}
+use Rattle.format.specs.Fields.{range}
 use Rattle.format.specs.Limits.{words_limit}
-use Rattle.format.specs.Actions.{apply, keep_all}
+use Rattle.format.specs.Actions.{keep_all}
 use Rattle.format.specs.Policy.{Policy, Drop, Pass, Test, Set, Cost, Not, Union, Sequence, Star, postfix, Predicate, Legal}
-use Rattle.weights.specs.Weights.{Ops, Weight, Laws}
+use Rattle.weights.specs.Weights.{Ops, Laws}
 use Rattle.weights.specs.Order.{Lub, In}
 use Rattle.weights.proofs.Order.{lub_unique}
 use Rattle.meaning.specs.Decide.{choice, decide}
-use Rattle.meaning.specs.Leaves.{Action, Frame, Cell}
+use Rattle.meaning.specs.Leaves.{Frame, Cell}
 use Rattle.meaning.specs.Diagrams.{Diagram, weigh, SetsOf, Cells, Formed}
 use Rattle.meaning.specs.Constructions.{join, sequence, negate, round, pass_diagram, Compiles, drops, passes, tests, sets, costs, nots, unions, sequences, stars}
 use Rattle.meaning.specs.Frames.{InRange, Spare, Named}
-use Rattle.meaning.specs.Meanings.{Meaning, Everywhere, Alike, only, IsPass, IsSequence, IsCopies, IsStar, Means, Uses, named_in}
-use Rattle.meaning.proofs.Gathering.{choice_yes, choice_no}
+use Rattle.meaning.specs.Meanings.{Meaning, Alike, only, IsSequence, IsCopies, IsStar, Means, Uses, named_in}
+use Rattle.meaning.proofs.Gathering.{choice_yes}
 use Rattle.meaning.proofs.Narrowing.{cells_map, formed_weighted, weigh_weight}
 use Rattle.meaning.proofs.Joining.{Joined, joined}
 use Rattle.meaning.proofs.Sequencing.{sets_closed, Sequenced, sequenced}

@@ -1,5 +1,5 @@
 -- Joins over the cells of a leaf, and collecting. Assumes nothing.
-use Rattle.std.proofs.Common.{◌≡◌, ℕ, zero, suc, ◌<◌, ◌≤◌, ◌≢◌, ◌⊎◌, List, [], ◌∷◌, ◌++◌, map, Some, None, Option, sym, refl, ap, ◌∙◌, subst, ap₂, inl, inr, true≢false, arith}
+use Rattle.std.proofs.Common.{◌≡◌, ℕ, ◌≢◌, ◌⊎◌, List, [], ◌∷◌, ◌++◌, map, Some, None, Option, sym, refl, ap, ◌∙◌, subst, ap₂, inl, inr, arith}
 use Rattle.format.specs.Actions.{SetBelow}
 use Rattle.weights.specs.Weights.{Ops, Weight, Laws}
 use Rattle.meaning.specs.Decide.{choice, Tri, below, level, above, three, decide, order_actions, Before, equal_lists, equal_sets}

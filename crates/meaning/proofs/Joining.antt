@@ -1,14 +1,14 @@
 -- Join and choose: forms and weights. Assumes nothing.
-use Rattle.std.proofs.Common.{◌≡◌, ℕ, zero, suc, ◌+◌, ◌<◌, ◌≤◌, ◌≢◌, ◌⊎◌, List, [], ◌∷◌, ◌++◌, map, length, get_or, Some, None, Option, sym, refl, ap, ◌∙◌, subst, ap₂, subst₂, inl, inr, arith}
+use Rattle.std.proofs.Common.{◌≡◌, ℕ, zero, suc, ◌+◌, ◌<◌, ◌≤◌, ◌⊎◌, List, ◌++◌, map, get_or, Some, None, Option, sym, refl, ap, ◌∙◌, subst, ap₂, subst₂, inl, inr, arith}
 use Rattle.format.specs.Fields.{fields, LegalValue}
 use Rattle.format.specs.Actions.{compose}
 use Rattle.weights.specs.Weights.{Ops, Weight, Laws}
 use Rattle.meaning.specs.Decide.{choice, decide, three, Tri, below, level, above}
-use Rattle.meaning.specs.Leaves.{Action, Frame, Cell, Each, gather, collect, ActionFormed, CellFormed, LeafFormed}
-use Rattle.meaning.specs.Diagrams.{Diagram, Leaf, Node, emits, weigh, Facts, known, also, narrow_action, narrow_cell, narrows, narrow, make, Tests, Cells, After, Unlike, NodeFormed, Formed, extent}
-use Rattle.meaning.specs.Constructions.{equal_tests, order_tests, Tested, root, earlier, first_root, at, off, cells_of, join_at, join_by, join, choose_at, choose_by, choose}
+use Rattle.meaning.specs.Leaves.{Action, Frame, Cell, Each, collect, ActionFormed}
+use Rattle.meaning.specs.Diagrams.{Diagram, Leaf, Node, weigh, Facts, known, also, narrow_action, narrow_cell, narrows, make, Tests, Cells, After, Formed, extent}
+use Rattle.meaning.specs.Constructions.{equal_tests, order_tests, Tested, root, earlier, first_root, at, off, join_at, join_by, join, choose_at, choose_by, choose}
 use Rattle.meaning.proofs.Gathering.{choice_yes, choice_no, each_map, each_append, each_of_map, collect_each, Weights, gather_append, gather_collect}
-use Rattle.meaning.proofs.Narrowing.{Narrowing, yes_side, no_side, merged, kept, narrowing, narrows_leaf, tests_map, Weighted, formed_weighted, weigh_weight, emits_additive}
+use Rattle.meaning.proofs.Narrowing.{Narrowing, yes_side, no_side, merged, kept, narrowing, narrows_leaf, tests_map, Weighted, formed_weighted, emits_additive}
 use Rattle.meaning.proofs.Making.{collect_formed, Making, alike, apart, making, make_tests, make_formed, make_weighs_yes, make_weighs_no}
 use Rattle.meaning.proofs.Splitting.{after_trans, after_field, after_unlike, AtLeast, From, Rooted, Splitting, rooted, unrooted, splitting, Heads, leaves, split, heads, split_shrinks, rooted_either, formed_tests_legal, at_tests, off_tests, at_formed, off_formed, at_greater, off_after, off_cells, at_weighs, off_weighs}
 use Rattle.meaning.proofs.Canonicity.{extent_positive}

@@ -1,14 +1,14 @@
 -- Narrowing twice, well-formedness, and make. Assumes nothing.
-use Rattle.std.proofs.Common.{◌≡◌, ℕ, zero, suc, ◌+◌, ◌<◌, ◌≤◌, ◌≢◌, ◌⊎◌, List, [], ◌∷◌, ◌++◌, map, length, get_or, Some, None, Option, sym, refl, ap, ◌∙◌, subst, ap₂, inl, inr, arith}
+use Rattle.std.proofs.Common.{◌≡◌, ℕ, suc, ◌+◌, ◌<◌, ◌≤◌, ◌≢◌, ◌⊎◌, List, [], ◌∷◌, map, get_or, Some, None, Option, sym, refl, ap, ◌∙◌, subst, ap₂, inl, inr, arith}
 use mathlib.Core.Path.{fun_ext}
 use Rattle.format.specs.Fields.{fields, LegalValue}
-use Rattle.format.specs.Actions.{apply, LegalSet, LegalSets}
+use Rattle.format.specs.Actions.{LegalSet}
 use Rattle.weights.specs.Weights.{Ops, Weight, Laws}
-use Rattle.meaning.specs.Decide.{choice, decide, Before, equal_lists, equal_sets}
-use Rattle.meaning.specs.Leaves.{Action, Frame, Cell, Each, gather, Ascending, collect, ActionFormed, CellFormed, LeafFormed}
+use Rattle.meaning.specs.Decide.{choice, decide, equal_lists}
+use Rattle.meaning.specs.Leaves.{Action, Frame, Cell, Each, Ascending, collect, ActionFormed, CellFormed, LeafFormed}
 use Rattle.meaning.specs.Diagrams.{Diagram, Leaf, Node, equal_cells, equal_diagrams, weigh, Facts, known, or_else, also, forget, narrow_action, narrow_cell, narrows, narrow, make, Tests, SetsOf, Sets, After, Unlike, NodeFormed, Formed, extent}
 use Rattle.meaning.proofs.Gathering.{choice_yes, choice_no, choice_both, each_map, each_of_map, Additive, Weights, NoZeros, Telling, value, join_not_zero, chosen_additive, gather_collect, collect_each, collect_ascending, collect_weights, leaves_differ, equal_actions}
-use Rattle.meaning.proofs.Narrowing.{none_some, known_there, known_only, known_else, forget_none, Consistent, narrow_narrow_action, get_or-narrow_action, length_narrow_action, Agrees, agrees_known, Narrowing, yes_side, no_side, merged, kept, narrowing, narrows_leaf, tests_map, tests_both, cells_all, sets_map, sets_both, also_second, tests_narrows, sets_narrows, extent_narrows, Weighted, formed_weighted, weigh_yes, weigh_no, gather_map, weighted_narrows, narrow_cells_weights, weigh_narrows}
+use Rattle.meaning.proofs.Narrowing.{none_some, known_there, known_only, known_else, Consistent, narrow_narrow_action, get_or-narrow_action, length_narrow_action, agrees_known, Narrowing, yes_side, no_side, merged, kept, narrowing, narrows_leaf, tests_map, tests_both, cells_all, sets_map, sets_both, also_second, tests_narrows, sets_narrows, extent_narrows, Weighted, formed_weighted, weigh_yes, weigh_no, gather_map, weighted_narrows, narrow_cells_weights, weigh_narrows}
 
 -- leaves in order, without zeros, are equal if they give equal weights to each action
 pub record Tidy (o : Ops) (l : List Cell) : Type 0 where

@@ -1,13 +1,11 @@
 -- Narrowing by what is known of a frame. Assumes nothing.
-use Rattle.std.proofs.Common.{◌≡◌, ℕ, zero, suc, ◌+◌, ◌<◌, ◌≤◌, ◌≢◌, ◌⊎◌, List, [], ◌∷◌, ◌++◌, map, length, get_or, Some, None, Option, sym, refl, ap, ◌∙◌, subst, ap₂, inl, inr, true≢false, arith}
-use mathlib.Core.Path.{fun_ext}
-use Rattle.format.specs.Fields.{fields, LegalValue}
-use Rattle.format.specs.Actions.{apply, replaced, LegalSet, LegalSets}
+use Rattle.std.proofs.Common.{◌≡◌, ℕ, zero, suc, ◌+◌, ◌≤◌, ◌⊎◌, List, [], ◌∷◌, map, length, get_or, Some, None, Option, sym, refl, ap, ◌∙◌, subst, ap₂, inl, inr, true≢false, arith}
+use Rattle.format.specs.Actions.{apply, replaced}
 use Rattle.weights.specs.Weights.{Ops, Weight, Laws}
-use Rattle.meaning.specs.Decide.{choice, decide, Before, equal_lists, equal_sets}
-use Rattle.meaning.specs.Leaves.{Action, Frame, Cell, Each, gather, Ascending, put, enter, collect, ActionFormed, CellFormed, LeafFormed}
-use Rattle.meaning.specs.Diagrams.{Diagram, Leaf, Node, equal_cells, equal_diagrams, reach, emits, weigh, Facts, known, or_else, also, forget, narrow_action, narrow_cell, branch, narrows, narrow, make, Tests, SetsOf, Cells, Sets, After, Unlike, NodeFormed, Formed, extent}
-use Rattle.meaning.proofs.Gathering.{choice_yes, choice_no, choice_both, each_map, each_append, each_of_map, Additive, Weights, NoZeros, Telling, value, zero_right, zero_zero, join_not_zero, chosen_additive, gather_weight, gather_collect, collect_each, collect_ascending, collect_weights, leaves_differ, equal_actions}
+use Rattle.meaning.specs.Decide.{choice, decide, equal_lists}
+use Rattle.meaning.specs.Leaves.{Action, Frame, Cell, Each, gather, collect}
+use Rattle.meaning.specs.Diagrams.{Diagram, Leaf, Node, equal_diagrams, reach, emits, weigh, Facts, known, or_else, also, forget, narrow_action, narrow_cell, branch, narrows, Tests, SetsOf, Cells, Sets, Formed, extent}
+use Rattle.meaning.proofs.Gathering.{choice_yes, choice_no, choice_both, each_map, each_of_map, Additive, Weights, chosen_additive, gather_weight, gather_collect, collect_each, collect_weights}
 
 -- facts
 

@@ -1,18 +1,17 @@
 -- Prefix, sequence and not: forms and weights. Assumes nothing.
-use Rattle.std.proofs.Common.{◌≡◌, ℕ, zero, suc, ◌+◌, ◌<◌, ◌≤◌, ◌≢◌, ◌⊎◌, List, [], ◌∷◌, ◌++◌, map, length, get_or, Some, None, Option, sym, refl, ap, ◌∙◌, subst, ap₂, subst₂, inl, inr, arith}
+use Rattle.std.proofs.Common.{◌≡◌, ℕ, zero, suc, ◌<◌, ◌≤◌, ◌⊎◌, List, [], ◌∷◌, map, length, get_or, Some, None, Option, sym, refl, ap, ◌∙◌, ap₂, inl, inr, arith}
 use lib.LanesLaws.{length-zip2}
 use Rattle.format.specs.Fields.{fields, LegalValue}
-use Rattle.format.specs.Actions.{apply, replaced, compose, last_set, keep_all, LegalSet, LegalSets}
+use Rattle.format.specs.Actions.{apply, replaced, compose, last_set, LegalSet}
 use Rattle.weights.specs.Weights.{Ops, Weight, Laws}
 use Rattle.meaning.specs.Decide.{choice, decide, equal_lists}
-use Rattle.meaning.specs.Leaves.{Action, Frame, Cell, Each, gather, collect, enter, put, ActionFormed, CellFormed, LeafFormed}
-use Rattle.meaning.specs.Diagrams.{Diagram, Leaf, Node, reach, emits, weigh, Facts, narrow_action, forget, make, Tests, SetsOf, Cells, Sets, After, NodeFormed, Formed, extent, equal_diagrams, narrow, known}
-use Rattle.meaning.specs.Constructions.{join, choose, prefix_cell, prefix_node, prefix, sequence_cells, sequence, single, drop_diagram, pass_diagram, test_diagram, negate_leaf, negate}
-use Rattle.meaning.proofs.Gathering.{choice_yes, choice_no, choice_both, each_map, each_of_map, collect_each, Additive, Weights, gather_weight, gather_append, gather_collect, zero_right}
-use Rattle.meaning.proofs.Narrowing.{none_some, forget_none, get_or-narrow_action, length_narrow_action, tests_map, Weighted, formed_weighted, weigh_yes, weigh_no, weigh_weight, emits_additive, gather_map, reach_weights}
-use Rattle.meaning.proofs.Making.{collect_formed, make_tests, make_formed, make_weighs_yes, make_weighs_no, cell_narrow}
-use Rattle.meaning.proofs.Splitting.{after_field}
-use Rattle.meaning.proofs.Canonical.{get_d_some, get_or-apply, formed_cells, formed_sets_legal}
+use Rattle.meaning.specs.Leaves.{Action, Frame, Cell, Each, gather, collect, ActionFormed, CellFormed, LeafFormed}
+use Rattle.meaning.specs.Diagrams.{Diagram, Leaf, Node, reach, emits, weigh, Facts, narrow_action, forget, make, Tests, SetsOf, Cells, After, Formed}
+use Rattle.meaning.specs.Constructions.{join, choose, prefix_cell, prefix_node, prefix, sequence_cells, sequence}
+use Rattle.meaning.proofs.Gathering.{choice_yes, choice_no, each_map, each_of_map, Additive, Weights, gather_weight, gather_collect, zero_right}
+use Rattle.meaning.proofs.Narrowing.{none_some, get_or-narrow_action, tests_map, formed_weighted, weigh_yes, weigh_no, weigh_weight, emits_additive, gather_map}
+use Rattle.meaning.proofs.Making.{collect_formed, make_tests, make_formed, make_weighs_yes, make_weighs_no}
+use Rattle.meaning.proofs.Canonical.{get_or-apply, formed_sets_legal}
 use Rattle.meaning.proofs.Joining.{Closed, cells_collect, cells_make, Joined, joined, Chosen, chosen}
 
 -- one action and then another

@@ -1,16 +1,16 @@
 -- Leaves of one cell, tests, and not. Assumes nothing.
-use Rattle.std.proofs.Common.{◌≡◌, ℕ, zero, suc, ◌<◌, ◌≤◌, ◌≢◌, ◌⊎◌, List, [], ◌∷◌, map, length, get_or, set, replicate, Some, None, Option, sym, refl, ap, ◌∙◌, subst, ap₂, inl, inr, true≢false, arith}
+use Rattle.std.proofs.Common.{◌≡◌, ℕ, zero, suc, ◌<◌, ◌≤◌, ◌⊎◌, List, [], ◌∷◌, length, get_or, set, replicate, Some, None, Option, sym, refl, ap, ◌∙◌, subst, ap₂, inl, inr, true≢false, arith}
 use Rattle.std.proofs.lemmas.List.{length-set, length-replicate}
 use Rattle.format.specs.Fields.{fields, LegalValue}
-use Rattle.format.specs.Actions.{apply, compose, keep_all, LegalSet, LegalSets}
+use Rattle.format.specs.Actions.{apply, compose, keep_all}
 use Rattle.weights.specs.Weights.{Ops, Weight, Laws}
 use Rattle.meaning.specs.Decide.{choice, decide, equal_lists, Before}
-use Rattle.meaning.specs.Leaves.{Action, Frame, Cell, Each, gather, enter, put, ActionFormed, CellFormed, LeafFormed}
-use Rattle.meaning.specs.Diagrams.{Diagram, Leaf, Node, emits, weigh, Facts, narrow_action, forget, make, narrow, known, Tests, SetsOf, Cells, Sets, After, Unlike, NodeFormed, Formed, equal_diagrams}
+use Rattle.meaning.specs.Leaves.{Action, Frame, Cell, Each, gather, ActionFormed, LeafFormed}
+use Rattle.meaning.specs.Diagrams.{Diagram, Leaf, Node, emits, weigh, Facts, narrow_action, make, known, Tests, SetsOf, Cells, After, Unlike, Formed, equal_diagrams}
 use Rattle.meaning.specs.Constructions.{single, drop_diagram, pass_diagram, test_diagram, negate_leaf, negate}
 use Rattle.meaning.specs.Meanings.{only}
-use Rattle.meaning.proofs.Gathering.{choice_yes, choice_no, choice_both, each_map, before_self, zero_right}
-use Rattle.meaning.proofs.Narrowing.{none_some, forget_none, narrows_leaf, tests_map, Weighted, formed_weighted, weigh_yes, weigh_no}
+use Rattle.meaning.proofs.Gathering.{choice_yes, choice_no, choice_both, before_self, zero_right}
+use Rattle.meaning.proofs.Narrowing.{none_some, forget_none, narrows_leaf, tests_map, formed_weighted, weigh_yes, weigh_no}
 use Rattle.meaning.proofs.Making.{make_tests, make_formed, make_weighs_yes, make_weighs_no}
 use Rattle.meaning.proofs.Joining.{Closed, cells_make}
 use Rattle.meaning.proofs.Sequencing.{legal_set}

@@ -1,15 +1,14 @@
 -- A diagram at a test and off it. Assumes nothing.
-use Rattle.std.proofs.Common.{◌≡◌, ℕ, zero, suc, ◌+◌, ◌<◌, ◌≤◌, ◌≢◌, ◌⊎◌, List, [], ◌∷◌, ◌++◌, map, length, get_or, Some, None, Option, sym, refl, ap, ◌∙◌, subst, ap₂, inl, inr, arith}
+use Rattle.std.proofs.Common.{◌≡◌, ℕ, ◌+◌, ◌<◌, ◌≤◌, ◌⊎◌, List, get_or, Some, None, Option, sym, refl, ap, ◌∙◌, subst, inl, inr, arith}
 use Rattle.format.specs.Fields.{fields, LegalValue}
-use Rattle.format.specs.Actions.{compose, last_set}
-use Rattle.weights.specs.Weights.{Ops, Weight, Laws}
-use Rattle.meaning.specs.Decide.{choice, decide, three, Tri, below, level, above}
-use Rattle.meaning.specs.Leaves.{Action, Frame, Cell, Each, collect}
-use Rattle.meaning.specs.Diagrams.{Diagram, Leaf, Node, weigh, Facts, known, narrow_action, narrow_cell, also, narrows, narrow, make, Tests, SetsOf, Cells, Sets, After, Unlike, NodeFormed, Formed, extent}
-use Rattle.meaning.specs.Constructions.{equal_tests, order_tests, Tested, root, earlier, first_root, at, off, cells_of}
-use Rattle.meaning.proofs.Gathering.{choice_yes, choice_no, each_of_map, collect_each}
-use Rattle.meaning.proofs.Narrowing.{none_some, known_there, known_only, known_else, get_or-narrow_action, Agrees, agrees_known, Narrowing, yes_side, no_side, merged, kept, narrowing, narrows_leaf, tests_map, sets_map, cells_map, cells_all, tests_narrows, sets_narrows, extent_narrows, Weighted, formed_weighted, weigh_yes, weigh_no, weighted_narrows, weigh_narrows}
-use Rattle.meaning.proofs.Making.{formed_narrows, Making, alike, apart, making}
+use Rattle.weights.specs.Weights.{Ops, Laws}
+use Rattle.meaning.specs.Decide.{decide, three, Tri, below, level, above}
+use Rattle.meaning.specs.Leaves.{Frame, Cell}
+use Rattle.meaning.specs.Diagrams.{Diagram, Leaf, Node, weigh, known, narrow, Tests, Cells, Sets, After, Unlike, Formed, extent}
+use Rattle.meaning.specs.Constructions.{equal_tests, order_tests, root, first_root, at, off}
+use Rattle.meaning.proofs.Gathering.{choice_yes, choice_no}
+use Rattle.meaning.proofs.Narrowing.{none_some, known_there, agrees_known, tests_map, sets_map, cells_all, tests_narrows, sets_narrows, extent_narrows, Weighted, weigh_yes, weigh_no, weighted_narrows, weigh_narrows}
+use Rattle.meaning.proofs.Making.{formed_narrows}
 
 -- the order of tests
 

@@ -1,22 +1,22 @@
 -- Sequences as least upper bounds, and star: its rounds end. Assumes nothing.
-use Rattle.std.proofs.Common.{◌≡◌, ℕ, zero, suc, ◌+◌, ◌<◌, ◌≤◌, ◌≢◌, ◌⊎◌, List, [], ◌∷◌, ◌++◌, map, length, get_or, Some, None, Option, sym, refl, ap, ◌∙◌, subst, ap₂, inl, inr, arith}
+use Rattle.std.proofs.Common.{◌≡◌, ℕ, zero, suc, ◌+◌, ◌<◌, ◌≤◌, List, [], ◌∷◌, ◌++◌, map, length, get_or, Some, None, Option, sym, refl, ap, ◌∙◌, subst, ap₂, inl, inr, arith}
 use lib.LanesLaws.{length-zip2}
-use Rattle.format.specs.Fields.{fields, LegalValue}
+use Rattle.format.specs.Fields.{fields}
 use Rattle.format.specs.Actions.{apply, replaced}
 use Rattle.weights.specs.Weights.{Ops, Weight, Laws}
-use Rattle.weights.specs.Order.{Below, Under, Lub, In, joins}
-use Rattle.weights.proofs.Order.{under_refl, under_eq, under_trans, zero_under, times_mono_left, joins_weight, joins_upper, joins_least, joins_mono, joins_equal, joins_times, joins_map}
-use Rattle.walks.specs.Walks.{Same, Steps, pick, Weighed, stay, power, walk, Walked, start, onward, MeetsOnly}
-use Rattle.walks.specs.Rounds.{Stopped, Rounds}
+use Rattle.weights.specs.Order.{Under, Lub, In, joins}
+use Rattle.weights.proofs.Order.{under_eq, under_trans, zero_under, times_mono_left, joins_weight, joins_upper, joins_least, joins_mono, joins_equal, joins_times, joins_map}
+use Rattle.walks.specs.Walks.{Same, Steps, pick, Weighed, stay, power, walk, Walked, start, onward}
+use Rattle.walks.specs.Rounds.{Stopped}
 use Rattle.walks.proofs.Walks.{power_weight, rounds}
 use Rattle.meaning.specs.Decide.{choice, decide, equal_lists}
-use Rattle.meaning.specs.Leaves.{Action, Frame, Cell, Each, gather, ActionFormed, CellFormed, LeafFormed}
+use Rattle.meaning.specs.Leaves.{Action, Frame, Cell, Each, gather, ActionFormed, CellFormed}
 use Rattle.meaning.specs.Diagrams.{Diagram, Leaf, Node, reach, emits, weigh, Tests, SetsOf, Cells, Sets, Formed}
 use Rattle.meaning.specs.Constructions.{join, sequence, pass_diagram, round}
 use Rattle.meaning.specs.Frames.{InRange, Named}
-use Rattle.meaning.specs.Meanings.{Meaning, Everywhere, only, IsPass, IsSequence, IsCopies, IsStar}
+use Rattle.meaning.specs.Meanings.{only, IsStar}
 use Rattle.meaning.proofs.Gathering.{choice_yes, choice_no, choice_both, each_map}
-use Rattle.meaning.proofs.Narrowing.{Weighted, formed_weighted, weigh_weight, emits_additive, reach_weights, none_some, tests_map, cells_map}
+use Rattle.meaning.proofs.Narrowing.{Weighted, formed_weighted, weigh_weight, emits_additive, none_some, tests_map, cells_map}
 use Rattle.meaning.proofs.Canonical.{get_or-apply, apply_in_range, same_weights_everywhere}
 use Rattle.meaning.proofs.Joining.{Joined, joined}
 use Rattle.meaning.proofs.Sequencing.{sets_closed, Sequenced, sequenced}

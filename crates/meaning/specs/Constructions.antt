@@ -1,5 +1,5 @@
 -- The constructions on diagrams, and the diagrams of policies.
-use Rattle.std.specs.Prelude.{◌≡◌, ℕ, zero, suc, ◌+◌, ◌<◌, ◌≢◌, ◌⊎◌, List, [], ◌∷◌, ◌++◌, map, set, Some, None, Option, slice_index_or, slice_set, refl}
+use Rattle.std.specs.Prelude.{◌≡◌, ℕ, zero, suc, ◌+◌, ◌<◌, List, [], ◌∷◌, ◌++◌, map, Some, None, Option, slice_index_or, slice_set}
 use Rattle.std.proofs.Common.{sym, inl, inr}
 use Rattle.format.specs.Actions.{compose, keep_all}
 use Rattle.format.specs.Policy.{Policy, Drop, Pass, Test, Set, Cost, Not, Union, Sequence, Star}

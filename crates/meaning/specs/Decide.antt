@@ -1,6 +1,6 @@
 -- Decisions: whether two lists, actions or numbers are equal, and which of two comes first.
-use Rattle.std.specs.Prelude.{◌≡◌, ℕ, zero, suc, ◌<◌, ◌⊎◌, List, [], ◌∷◌, length, Some, None, Option, refl}
-use Rattle.std.proofs.Common.{sym, ap, ap₂, subst, inl, inr, true≢false, arith}
+use Rattle.std.specs.Prelude.{◌≡◌, ℕ, ◌<◌, ◌⊎◌, List, [], ◌∷◌, Some, None, Option, refl}
+use Rattle.std.proofs.Common.{sym, ap, ap₂, inl, inr, true≢false, arith}
 use Rattle.std.proofs.Math.Decide.{ℕ_discrete, dec_lt}
 use Rattle.format.specs.Actions.{SetBelow}
 

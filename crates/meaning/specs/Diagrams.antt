@@ -1,9 +1,9 @@
 -- Diagrams: decisions by tests of fields, with leaves at the ends.
-use Rattle.std.specs.Prelude.{◌≡◌, ℕ, zero, suc, ◌+◌, ◌<◌, ◌≢◌, ◌⊎◌, List, [], ◌∷◌, map, length, Some, None, Option, slice_index, slice_index_or, refl}
-use Rattle.std.proofs.Common.{ap, ap₂, true≢false}
+use Rattle.std.specs.Prelude.{◌≡◌, ℕ, zero, suc, ◌+◌, ◌<◌, ◌≢◌, ◌⊎◌, List, [], ◌∷◌, map, Some, None, Option, slice_index, slice_index_or}
+use Rattle.std.proofs.Common.{ap, true≢false}
 use Rattle.format.specs.Fields.{fields, LegalValue}
 use Rattle.format.specs.Actions.{apply}
-use Rattle.weights.specs.Weights.{Ops, Weight}
+use Rattle.weights.specs.Weights.{Ops}
 use Rattle.meaning.specs.Decide.{choice, decide, equal_lists, equal_sets}
 use Rattle.meaning.specs.Leaves.{Action, Frame, Cell, Each, gather, collect, LeafFormed}
 

@@ -1,6 +1,6 @@
 -- Leaves: lists of actions with their weights.
-use Rattle.std.specs.Prelude.{◌≡◌, ℕ, zero, suc, ◌<◌, ◌≢◌, List, [], ◌∷◌, map, length, Some, None, Option, slice_index_or}
-use Rattle.format.specs.Fields.{fields, LegalValue}
+use Rattle.std.specs.Prelude.{◌≡◌, ℕ, ◌<◌, ◌≢◌, List, [], ◌∷◌, length, None, Option, slice_index_or}
+use Rattle.format.specs.Fields.{fields}
 use Rattle.format.specs.Actions.{LegalSet}
 use Rattle.weights.specs.Weights.{Ops, Weight}
 use Rattle.meaning.specs.Decide.{choice, three, decide, order_actions, Before}

@@ -1,5 +1,5 @@
 -- What a policy means: a weight for each frame in and each frame out, zero for not emitted.
-use Rattle.std.specs.Prelude.{◌≡◌, ℕ, zero, suc, List, [], ◌∷◌, ◌++◌, slice_index, slice_set}
+use Rattle.std.specs.Prelude.{◌≡◌, ℕ, suc, List, [], ◌∷◌, ◌++◌, slice_index, slice_set}
 use Rattle.format.specs.Policy.{Policy, Drop, Pass, Test, Set, Cost, Not, Union, Sequence, Star}
 use Rattle.weights.specs.Weights.{Ops}
 use Rattle.weights.specs.Order.{Lub, In}

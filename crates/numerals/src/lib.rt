@@ -1,4 +1,6 @@
 // Numbers as text: the decimal and hexadecimal numbers of the records that people read.
+#![tactic(auto)]
+
 ghost use Rattle.std.specs.Prelude.{◌≡◌, ◌<◌, ◌++◌, decimal, OnOk};
 ghost use Rattle.numerals.specs.Numerals.{hex_digit, hex_word};
 

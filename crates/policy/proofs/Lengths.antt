@@ -1,8 +1,7 @@
 -- A text that is not too long is answered as the grammar answers it.
-use Rattle.std.proofs.Common.{◌≡◌, ℕ, ◌≤◌, min, List, length, take, Ok, Err, Result, sym, ap, ◌∙◌, arith, length-take}
+use Rattle.std.proofs.Common.{◌≡◌, ℕ, ◌≤◌, min, List, length, Ok, Err, Result, sym, ap, ◌∙◌, arith, length-take}
 use Rattle.faults.specs.declared.layers.GrammarFault.{GrammarFault}
 use Rattle.format.specs.Limits.{text_limit}
-use Rattle.format.specs.Policy.{postfix}
 use Rattle.grammar.specs.Reading.{Answers, Written, room_in}
 use Rattle.policy.specs.Reading.{Rejected, Scanned}
 

@@ -1,8 +1,8 @@
 -- A text and a memory have one answer.
-use Rattle.std.proofs.Common.{◌≡◌, ℕ, ◌<◌, ◌≤◌, List, length, Ok, Err, Result, sym, refl, ap, ◌∙◌, arith}
+use Rattle.std.proofs.Common.{◌≡◌, ℕ, ◌≤◌, List, length, Ok, Err, Result, sym, refl, ap, ◌∙◌, arith}
 use Rattle.faults.specs.declared.layers.GrammarFault.{GrammarFault}
 use Rattle.format.specs.Limits.{text_limit}
-use Rattle.grammar.specs.Reading.{Written, room_in}
+use Rattle.grammar.specs.Reading.{Written}
 use Rattle.grammar.proofs.Determined.{accepted_or_refused, one_fault, one_result}
 use Rattle.policy.specs.Reading.{Rejected, Read, OnlyAnswer}
 

@@ -1,4 +1,6 @@
 // Policy texts and words: what is read from a text, and which words are a legal policy.
+#![tactic(auto)]
+
 mod reader;
 mod texts;
 

@@ -1,4 +1,6 @@
 // The records of which diagrams are made: cells and nodes beside actions, when two of a kind are the same, and the words of diagrams.
+#![tactic(auto)]
+
 mod kinds;
 mod same;
 mod words;

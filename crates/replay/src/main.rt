@@ -1,4 +1,6 @@
 // Replays captured frames through a table and prints the record of what the switch would emit.
+#![tactic(auto)]
+
 use anyhow::anyhow;
 use replays::{Kind, replay};
 use std::io::Write;

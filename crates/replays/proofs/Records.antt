@@ -1,8 +1,7 @@
 -- The whole record.
-use Rattle.std.proofs.Common.{◌≡◌, ℕ, ◌*◌, List, [], ◌++◌, length, Ok, Err, Result, sym, ap, ◌∙◌, subst, MatchResult}
+use Rattle.std.proofs.Common.{◌≡◌, ℕ, ◌*◌, List, ◌++◌, length, Ok, Err, Result, sym, ap, ◌∙◌, subst, MatchResult}
 use Rattle.faults.specs.Lines.{refused_line}
 use Rattle.faults.specs.Shows.{table_shown}
-use Rattle.faults.specs.declared.Shown.{Shown}
 use Rattle.faults.specs.declared.layers.TableFault.{TableFault}
 use Rattle.faults.specs.declared.layers.TableFault.TheVariants.{Illegal}
 use Rattle.weights.specs.Weights.{Ops}

@@ -1,12 +1,12 @@
 -- An emitted frame has as many values as the frame that came in.
-use Rattle.std.proofs.Common.{◌≡◌, ℕ, suc, ◌+◌, Bool, true, false, cond, ◌&&◌, eqb, ◌⊎◌, List, [], ◌∷◌, length, set, sym, refl, ap, ◌∙◌, inl, inr, length-set}
+use Rattle.std.proofs.Common.{◌≡◌, ℕ, suc, ◌+◌, true, false, cond, ◌&&◌, eqb, List, [], ◌∷◌, length, set, sym, refl, ap, ◌∙◌, inl, inr, length-set}
 use native.Mathlib.Decide.{ℕ_discrete}
 use Rattle.std.specs.List.{AllByRecursion as All}
 use Rattle.format.specs.Fields.{fields}
-use Rattle.frames.specs.Frames.{words_from, frame_words}
+use Rattle.frames.specs.Frames.{words_from}
 use Rattle.weights.specs.Weights.{Ops}
 use Rattle.tables.specs.Rows.{Pair, Emission, Row}
-use Rattle.tables.specs.Emits.{Sent, sent_length, sent_words, replaced, same, joins, holds, emits, In, Answer}
+use Rattle.tables.specs.Emits.{Sent, sent_length, sent_words, replaced, same, joins, holds, emits, In}
 
 replaced_length : (ps : List Pair) (s : List ℕ) → length (replaced ps s) ≡ length s
 replaced_length [] s = refl

@@ -1,5 +1,5 @@
 -- The record of a replay, by what the table does with each frame.
-use Rattle.std.specs.Prelude.{◌≡◌, ℕ, ◌*◌, ◌<◌, List, [], ◌∷◌, ◌++◌, length, take, drop}
+use Rattle.std.specs.Prelude.{◌≡◌, ℕ, ◌*◌, ◌<◌, List, [], ◌++◌, length, take, drop}
 use Rattle.std.specs.List.{flat_map}
 use Rattle.faults.specs.declared.layers.FrameFault.{FrameFault}
 use Rattle.faults.specs.declared.layers.TableFault.TheVariants.{Illegal}

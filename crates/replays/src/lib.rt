@@ -1,4 +1,6 @@
 // Captured frames replayed through a table, and the record of what a switch would emit.
+#![tactic(auto)]
+
 ghost use Rattle.std.specs.Prelude.{◌≡◌, ℕ, ◌*◌, min, List, ◌++◌, length, IfOk, MatchResult, OnOk};
 ghost use Rattle.std.specs.List.{flat_map, AllByRecursion as All};
 ghost use Rattle.faults.specs.declared.layers.TableFault.TheVariants.{Illegal};

@@ -7,7 +7,7 @@ use Rattle.weights.specs.Weights.{Ops}
 use Rattle.meaning.specs.Decide.{choice, decide}
 use Rattle.meaning.specs.Leaves.{Action, Cell, collect}
 use Rattle.meaning.specs.Diagrams.{Diagram, Leaf, Facts, known, forget, narrow_action as narrow_by, narrow_cell, narrow}
-use Rattle.meaning.proofs.Gathering.{choice_yes, choice_no}
+use Rattle.meaning.proofs.Gathering.{choice_yes}
 use Rattle.meaning.proofs.Narrowing.{known_there, known_else, narrows_leaf}
 use Rattle.requests.specs.Rules.{narrow_one, narrow_leaf}
 

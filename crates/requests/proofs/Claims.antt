@@ -1,14 +1,13 @@
 -- The claims, each from the rules and from what is worked out. Assumes nothing.
-use Rattle.std.proofs.Common.{◌≡◌, ℕ, suc, List, sym}
-use Rattle.weights.specs.Weights.{Ops, Laws}
+use Rattle.std.proofs.Common.{◌≡◌, ℕ, suc, List}
+use Rattle.weights.specs.Weights.{Ops}
 use Rattle.weights.specs.Order.{In}
 use Rattle.meaning.specs.Diagrams.{Diagram}
 use Rattle.meaning.specs.Constructions.{round, Compiles}
 use Rattle.meaning.proofs.Starring.{rounds_end}
 use Rattle.meaning.proofs.Compiling.{compiles, named_in_either, uses_first}
 use Rattle.requests.specs.Requests.{Request}
-use Rattle.requests.specs.Rules.{Narrows, Makes, Joins, Chooses, Prefixes, Sequences, Negates, Stars, Compiled}
-use Rattle.requests.specs.Claims.{Construction, AtMostOne, AtLeastOne, RulesAgree, RulesCover, SomeAnswer, NothingMissing, RequestsSuffice, OneAnswer, Gives, NarrowGives, MakeGives, JoinGives, ChooseGives, PrefixGives, SequenceGives, NegateGives, StarGives, StarAnswers, CompileGives, CompileAnswers}
+use Rattle.requests.specs.Claims.{AtMostOne, RulesAgree, RulesCover, RequestsSuffice, Gives, NarrowGives, MakeGives, JoinGives, ChooseGives, PrefixGives, SequenceGives, NegateGives, StarGives, StarAnswers, CompileGives, CompileAnswers}
 use Rattle.requests.proofs.Unique.{narrows_same, makes_same, joins_same, chooses_same, prefixes_same, sequences_same, negates_same, stars_same, compiled_same}
 use Rattle.requests.proofs.Narrowed.{Given, narrow_given, make_given}
 use Rattle.requests.proofs.Joined.{join_given, choose_given}

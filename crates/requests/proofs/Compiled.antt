@@ -1,20 +1,20 @@
 -- Not, star and the diagrams of policies by the rules give what they are worked out to. Assumes nothing.
-use Rattle.std.proofs.Common.{◌≡◌, ℕ, zero, suc, ◌+◌, ◌<◌, ◌≤◌, ◌≢◌, ◌⊎◌, List, [], ◌∷◌, ◌++◌, get_or, set, Some, None, Option, sym, refl, ap, ◌∙◌, subst, ap₂, inl, inr, true≢false, arith}
+use Rattle.std.proofs.Common.{◌≡◌, ℕ, zero, suc, ◌+◌, ◌<◌, ◌≤◌, ◌≢◌, List, [], ◌∷◌, ◌++◌, set, Some, sym, refl, ap, ◌∙◌, subst, arith}
 use Rattle.format.specs.Fields.{fields, LegalValue}
 use Rattle.format.specs.Actions.{keep_all}
 use Rattle.format.specs.Policy.{Policy, Drop, Pass, Test, Set, Cost, Not, Union, Sequence, Star, Legal}
-use Rattle.weights.specs.Weights.{Ops, Weight, Laws}
-use Rattle.meaning.specs.Decide.{choice, decide}
-use Rattle.meaning.specs.Leaves.{Action, Cell, Each, LeafFormed}
+use Rattle.weights.specs.Weights.{Ops, Laws}
+use Rattle.meaning.specs.Decide.{choice}
+use Rattle.meaning.specs.Leaves.{Cell, Each, LeafFormed}
 use Rattle.meaning.specs.Diagrams.{Diagram, Leaf, Node, equal_diagrams, make, Tests, After, Formed}
-use Rattle.meaning.specs.Constructions.{join, sequence, single, drop_diagram, pass_diagram, test_diagram, negate_leaf, negate, round, Compiles, drops, passes, tests, sets, costs, nots, unions, sequences, stars}
+use Rattle.meaning.specs.Constructions.{join, sequence, drop_diagram, pass_diagram, test_diagram, negate_leaf, negate, round, Compiles, drops, passes, tests, sets, costs, nots, unions, sequences, stars}
 use Rattle.meaning.proofs.Gathering.{choice_both}
 use Rattle.meaning.proofs.Making.{make_tests, make_formed}
 use Rattle.meaning.proofs.Joining.{joined}
 use Rattle.meaning.proofs.Sequencing.{sequenced}
 use Rattle.meaning.proofs.Simple.{keep_formed, set_formed, single_formed, pass_formed, drop_is_formed, test_formed}
 use Rattle.meaning.proofs.Starring.{round_good}
-use Rattle.requests.specs.Requests.{Request, node, leaf_records, RecordFormed}
+use Rattle.requests.specs.Requests.{node, leaf_records, RecordFormed}
 use Rattle.requests.specs.Rules.{Makes, Joins, Sequences, one_cell, pass_cells, Negates, negates_drop, negates_pass, negates_other, negates_node, Rounds, rounds_end, rounds_on, Stars, stars_rounds, Compiled, compiled_drop, compiled_pass, compiled_test, compiled_set, compiled_cost, compiled_not, compiled_union, compiled_sequence, compiled_star}
 use Rattle.requests.proofs.Narrowed.{Given, leaf_sound, sound_two, sound_three, Ready, make_given}
 use Rattle.requests.proofs.Joined.{weaker, join_given}

@@ -1,17 +1,16 @@
 -- Prefix and sequence by the rules give what they are worked out to. Assumes nothing.
-use Rattle.std.proofs.Common.{◌≡◌, ℕ, ◌<◌, ◌≤◌, ◌≢◌, ◌⊎◌, List, [], ◌∷◌, ◌++◌, get_or, Some, None, Option, sym, refl, ap, ◌∙◌, subst, ap₂, inl, inr, arith}
-use Rattle.format.specs.Fields.{fields, LegalValue}
+use Rattle.std.proofs.Common.{◌≡◌, ℕ, ◌≤◌, List, [], ◌∷◌, ◌++◌, get_or, Some, None, Option, refl}
 use Rattle.weights.specs.Weights.{Ops, Weight, Laws}
 use Rattle.meaning.specs.Decide.{choice, decide}
-use Rattle.meaning.specs.Leaves.{Action, Cell, Each, ActionFormed, CellFormed, LeafFormed}
-use Rattle.meaning.specs.Diagrams.{Diagram, Leaf, Node, make, Tests, After, Formed}
+use Rattle.meaning.specs.Leaves.{Action, Cell, Each, ActionFormed, CellFormed}
+use Rattle.meaning.specs.Diagrams.{Diagram, Leaf, Node, make, After, Formed}
 use Rattle.meaning.specs.Constructions.{join, choose, prefix_node, prefix, sequence_cells, sequence}
-use Rattle.meaning.proofs.Joining.{Joined, joined}
-use Rattle.meaning.proofs.Sequencing.{Prefixed, prefixed, Sequenced, sequenced}
+use Rattle.meaning.proofs.Joining.{joined}
+use Rattle.meaning.proofs.Sequencing.{Prefixed, prefixed, sequenced}
 use Rattle.meaning.proofs.Simple.{drop_is_formed}
-use Rattle.requests.specs.Requests.{Request, leaf_records, RecordFormed}
+use Rattle.requests.specs.Requests.{leaf_records}
 use Rattle.requests.specs.Rules.{Makes, Joins, Chooses, prefix_leaf, Prefixes, prefixes_leaf, prefixes_yes, prefixes_no, prefixes_both, Follows, follows_none, follows_next, Sequences, sequences_leaf, sequences_node}
-use Rattle.requests.proofs.Narrowed.{Given, leaf_sound, sound_two, sound_three, Ready, make_given}
+use Rattle.requests.proofs.Narrowed.{Given, leaf_sound, sound_three, make_given}
 use Rattle.requests.proofs.Joined.{weaker, join_given, choose_given}
 
 module _ {o : Ops} (L : Laws o) (s : Action) (w : ℕ) (hs : ActionFormed s) (hw : Weight o w) where

@@ -1,5 +1,5 @@
 -- Every record of a result is one of an operand or is requested. Assumes nothing.
-use Rattle.std.proofs.Common.{◌≡◌, ℕ, List, [], ◌∷◌, ◌++◌}
+use Rattle.std.proofs.Common.{ℕ, List, [], ◌∷◌, ◌++◌}
 use Rattle.format.specs.Policy.{Policy}
 use Rattle.weights.specs.Weights.{Ops}
 use Rattle.meaning.specs.Leaves.{Action, Cell, Each}

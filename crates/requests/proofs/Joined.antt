@@ -1,17 +1,17 @@
 -- Join and choose by the rules give what they are worked out to. Assumes nothing.
-use Rattle.std.proofs.Common.{◌≡◌, ℕ, zero, suc, ◌+◌, ◌<◌, ◌≤◌, ◌≢◌, ◌⊎◌, List, [], ◌∷◌, ◌++◌, Some, None, Option, sym, refl, ap, ◌∙◌, subst, ap₂, subst₂, inl, inr, true≢false, arith}
+use Rattle.std.proofs.Common.{◌≡◌, ℕ, zero, suc, ◌+◌, ◌<◌, ◌≤◌, ◌≢◌, ◌⊎◌, List, [], ◌++◌, Some, sym, refl, subst, subst₂, arith}
 use Rattle.format.specs.Fields.{fields, LegalValue}
 use Rattle.weights.specs.Weights.{Ops, Laws}
-use Rattle.meaning.specs.Decide.{choice, decide}
-use Rattle.meaning.specs.Leaves.{Cell, Each, collect, LeafFormed}
-use Rattle.meaning.specs.Diagrams.{Diagram, Leaf, Node, make, narrow, Tests, After, Formed, extent}
-use Rattle.meaning.specs.Constructions.{Tested, root, earlier, first_root, at, off, join, choose}
+use Rattle.meaning.specs.Decide.{decide}
+use Rattle.meaning.specs.Leaves.{Cell, collect}
+use Rattle.meaning.specs.Diagrams.{Diagram, Leaf, Node, make, Tests, After, Formed, extent}
+use Rattle.meaning.specs.Constructions.{root, earlier, first_root, at, off, join, choose}
 use Rattle.meaning.proofs.Narrowing.{tests_map}
 use Rattle.meaning.proofs.Splitting.{after_field, after_unlike, From, Unrooted, Rooted, Splitting, rooted, unrooted, splitting, Heads, leaves, split, heads, split_shrinks, rooted_either, formed_tests_legal, at_formed, off_formed, at_greater, off_after}
 use Rattle.meaning.proofs.Joining.{Joined, joined, tests_fields, Least, own, other, least, Chosen, chosen}
 use Rattle.meaning.proofs.Canonicity.{extent_positive}
-use Rattle.requests.specs.Requests.{Request, leaf_records, RecordFormed}
-use Rattle.requests.specs.Rules.{Narrows, Makes, At, at_root, at_other, Joins, joins_leaves, joins_split, least_test, Chooses, chooses_here, chooses_same_field, chooses_other_field}
+use Rattle.requests.specs.Requests.{leaf_records}
+use Rattle.requests.specs.Rules.{Makes, At, at_root, at_other, Joins, joins_leaves, joins_split, Chooses, chooses_here, chooses_same_field, chooses_other_field}
 use Rattle.requests.proofs.Unique.{none_some, same_test}
 use Rattle.requests.proofs.Narrowed.{Given, leaf_sound, sound_two, sound_three, Ready, narrow_given, make_given}
 use Rattle.requests.proofs.Worded.{join_of_leaves, join_of_split, choose_own, choose_same_field, choose_other_field}

@@ -1,9 +1,9 @@
 -- Narrow and make by the rules give what they are worked out to. Assumes nothing.
-use Rattle.std.proofs.Common.{◌≡◌, ℕ, zero, suc, ◌+◌, ◌<◌, ◌≤◌, ◌≢◌, ◌⊎◌, List, [], ◌∷◌, ◌++◌, map, Some, None, Option, sym, refl, ap, ◌∙◌, subst, ap₂, subst₂, inl, inr, arith}
+use Rattle.std.proofs.Common.{◌≡◌, ℕ, zero, suc, ◌+◌, ◌<◌, ◌≤◌, ◌≢◌, List, [], ◌∷◌, ◌++◌, None, sym, ap, ◌∙◌, subst, arith}
 use Rattle.format.specs.Fields.{fields, LegalValue}
 use Rattle.weights.specs.Weights.{Ops, Laws}
-use Rattle.meaning.specs.Leaves.{Action, Cell, Each, collect, Ascending, ActionFormed, CellFormed, LeafFormed}
-use Rattle.meaning.specs.Diagrams.{Diagram, Leaf, Node, known, also, narrows, narrow, make, Tests, Sets, After, Unlike, NodeFormed, Formed, extent}
+use Rattle.meaning.specs.Leaves.{Cell, Each, LeafFormed}
+use Rattle.meaning.specs.Diagrams.{Diagram, Leaf, Node, known, also, narrows, narrow, make, Tests, After, Formed, extent}
 use Rattle.meaning.proofs.Gathering.{each_append}
 use Rattle.meaning.proofs.Narrowing.{none_some, known_there, known_only, known_else, Consistent, Narrowing, yes_side, no_side, merged, kept, narrowing, tests_map, sets_map, tests_narrows, extent_narrows, formed_weighted}
 use Rattle.meaning.proofs.Making.{narrows_narrows, formed_narrows, narrows_still, Making, alike, apart, making, make_formed}

@@ -1,14 +1,13 @@
 -- The rules give a diagram for all operands, well-formed or not. Assumes nothing.
-use Rattle.std.proofs.Common.{◌≡◌, ℕ, zero, suc, ◌+◌, ◌<◌, ◌≤◌, ◌≢◌, ◌⊎◌, List, [], ◌∷◌, ◌++◌, get_or, Some, None, Option, sym, refl, ap, ◌∙◌, subst, ap₂, subst₂, inl, inr, arith}
+use Rattle.std.proofs.Common.{◌≡◌, ℕ, zero, suc, ◌+◌, ◌<◌, ◌≤◌, ◌≢◌, ◌⊎◌, List, [], ◌∷◌, get_or, Some, None, Option, sym, refl, subst₂, inl, inr, arith}
 use Rattle.weights.specs.Weights.{Ops}
 use Rattle.meaning.specs.Decide.{choice, decide, equal_lists}
 use Rattle.meaning.specs.Leaves.{Action, Cell}
 use Rattle.meaning.specs.Diagrams.{Diagram, Leaf, Node, equal_cells, equal_diagrams, extent}
-use Rattle.meaning.specs.Constructions.{equal_tests, root, off}
-use Rattle.meaning.proofs.Gathering.{choice_both}
-use Rattle.meaning.proofs.Splitting.{after_unlike, Rooted, Unrooted, Heads, leaves, split, heads}
+use Rattle.meaning.specs.Constructions.{equal_tests, off}
+use Rattle.meaning.proofs.Splitting.{after_unlike, Rooted, Heads, leaves, split, heads}
 use Rattle.meaning.proofs.Joining.{Least, own, other, least}
-use Rattle.requests.specs.Requests.{Request, leaf_records}
+use Rattle.requests.specs.Requests.{Request}
 use Rattle.requests.specs.Rules.{Narrows, narrows_leaf, narrows_yes, narrows_no, narrows_both, Makes, makes_no, makes_node, At, at_root, at_other, Joins, joins_leaves, joins_split, Chooses, chooses_here, chooses_same_field, chooses_other_field, Prefixes, prefixes_leaf, prefixes_yes, prefixes_no, prefixes_both, Follows, follows_none, follows_next, Sequences, sequences_leaf, sequences_node, pass_cells, Negates, negates_drop, negates_pass, negates_other, negates_node}
 use Rattle.requests.specs.Claims.{AtLeastOne}
 use Rattle.requests.proofs.Joined.{not_root}

@@ -1,12 +1,12 @@
 -- Each construction gives one diagram and one list of requests. Assumes nothing.
-use Rattle.std.proofs.Common.{◌≡◌, ℕ, zero, suc, ◌≢◌, ◌⊎◌, List, [], ◌∷◌, ◌++◌, map, get_or, Some, None, Option, sym, refl, ap, ◌∙◌, subst, ap₂, subst₂, inl, inr, true≢false}
+use Rattle.std.proofs.Common.{◌≡◌, ℕ, List, [], ◌∷◌, ◌++◌, Some, None, Option, sym, refl, ap, ◌∙◌, subst, ap₂, subst₂, true≢false}
 use Rattle.format.specs.Policy.{Policy}
 use Rattle.weights.specs.Weights.{Ops}
-use Rattle.meaning.specs.Leaves.{Action, Cell, collect}
+use Rattle.meaning.specs.Leaves.{Action, Cell}
 use Rattle.meaning.specs.Diagrams.{Diagram, Leaf, Node}
-use Rattle.meaning.specs.Constructions.{Tested, root, first_root, off}
-use Rattle.requests.specs.Requests.{Request, node, leaf_records}
-use Rattle.requests.specs.Rules.{narrow_leaf, Narrows, narrows_leaf, narrows_yes, narrows_no, narrows_both, Makes, makes_no, makes_node, At, at_root, at_other, Joins, joins_leaves, joins_split, least_test, Chooses, chooses_here, chooses_same_field, chooses_other_field, Prefixes, prefixes_leaf, prefixes_yes, prefixes_no, prefixes_both, Follows, follows_none, follows_next, Sequences, sequences_leaf, sequences_node, pass_cells, Negates, negates_drop, negates_pass, negates_other, negates_node, Rounds, rounds_end, rounds_on, Stars, stars_rounds, Compiled, compiled_drop, compiled_pass, compiled_test, compiled_set, compiled_cost, compiled_not, compiled_union, compiled_sequence, compiled_star}
+use Rattle.meaning.specs.Constructions.{Tested, off}
+use Rattle.requests.specs.Requests.{Request, node}
+use Rattle.requests.specs.Rules.{Narrows, narrows_leaf, narrows_yes, narrows_no, narrows_both, Makes, makes_no, makes_node, At, at_root, at_other, Joins, joins_leaves, joins_split, Chooses, chooses_here, chooses_same_field, chooses_other_field, Prefixes, prefixes_leaf, prefixes_yes, prefixes_no, prefixes_both, Follows, follows_none, follows_next, Sequences, sequences_leaf, sequences_node, pass_cells, Negates, negates_drop, negates_pass, negates_other, negates_node, Rounds, rounds_end, rounds_on, Stars, stars_rounds, Compiled, compiled_drop, compiled_pass, compiled_test, compiled_set, compiled_cost, compiled_not, compiled_union, compiled_sequence, compiled_star}
 
 -- the same diagram and the same requests
 abbrev pub Same : Diagram → List Request → Diagram → List Request → Type 0

@@ -1,10 +1,10 @@
 -- Join and choose as they are worked out satisfy their rules, whatever their fuel. Assumes nothing.
-use Rattle.std.proofs.Common.{◌≡◌, ℕ, zero, suc, ◌+◌, ◌<◌, ◌≤◌, ◌≢◌, ◌⊎◌, List, [], ◌∷◌, ◌++◌, Some, None, Option, sym, refl, ap, ◌∙◌, subst, ap₂, inl, inr, arith}
+use Rattle.std.proofs.Common.{◌≡◌, ℕ, zero, suc, ◌+◌, ◌<◌, ◌≤◌, ◌≢◌, ◌⊎◌, List, ◌++◌, Some, Option, sym, refl, ap, ◌∙◌, ap₂, arith}
 use Rattle.weights.specs.Weights.{Ops, Laws}
-use Rattle.meaning.specs.Decide.{choice, decide}
+use Rattle.meaning.specs.Decide.{decide}
 use Rattle.meaning.specs.Leaves.{Cell, collect}
-use Rattle.meaning.specs.Diagrams.{Diagram, Leaf, Node, make, After, extent}
-use Rattle.meaning.specs.Constructions.{equal_tests, Tested, root, earlier, first_root, at, off, cells_of, join_at, join_by, join, choose_at, choose_by, choose}
+use Rattle.meaning.specs.Diagrams.{Diagram, Leaf, make, After, extent}
+use Rattle.meaning.specs.Constructions.{equal_tests, Tested, root, earlier, first_root, at, off, join_at, join_by, join, choose_at, choose_by, choose}
 use Rattle.meaning.proofs.Gathering.{choice_yes, choice_no}
 use Rattle.meaning.proofs.Splitting.{after_unlike, Rooted, Heads, leaves, split, heads, split_shrinks}
 use Rattle.meaning.proofs.Joining.{Least, own, other, least}

@@ -1,6 +1,6 @@
 -- The constructions on diagrams, rule by rule: each gives a diagram and every record that it requests.
 -- A leaf that a rule gives is requested as a whole, and only once it is collected.
-use Rattle.std.specs.Prelude.{◌≡◌, ℕ, ◌≢◌, List, [], ◌∷◌, ◌++◌, map, Some, None, Option, slice_index_or, slice_set}
+use Rattle.std.specs.Prelude.{◌≡◌, ℕ, ◌≢◌, List, [], ◌∷◌, ◌++◌, map, Some, None, slice_index_or, slice_set}
 use Rattle.format.specs.Actions.{narrow_action, keep_all}
 use Rattle.format.specs.Policy.{Policy, Drop, Pass, Test, Set, Cost, Not, Union, Sequence, Star}
 use Rattle.weights.specs.Weights.{Ops}

@@ -1,5 +1,7 @@
 // The constructions on diagrams, rule by rule, with the records that they request: each function stands for a theorem,
 // for every lawful weight kind.
+#![tactic(auto)]
+
 ghost use Rattle.requests.specs.Claims.{OneAnswer, SomeAnswer, RequestsSuffice, NarrowGives, MakeGives, JoinGives, ChooseGives, PrefixGives, SequenceGives, NegateGives, StarGives, StarAnswers, CompileGives, CompileAnswers};
 
 // The rules give one diagram and one list of requests, whatever the operands are.

@@ -1,18 +1,16 @@
 -- What a row sends is what the table emits.
-use Rattle.std.proofs.Common.{◌≡◌, ℕ, zero, suc, ◌+◌, ◌<◌, ◌≤◌, Bool, true, false, cond, ◌⊎◌, List, [], ◌∷◌, ◌++◌, map, length, take, drop, set, IfOk, Ok, Err, Result, sym, refl, ap, ◌∙◌, subst, inl, inr, append_assoc, arith, MatchResult}
+use Rattle.std.proofs.Common.{◌≡◌, ℕ, suc, ◌≤◌, Bool, true, false, cond, ◌⊎◌, List, [], ◌∷◌, ◌++◌, map, length, take, drop, set, IfOk, Ok, Err, Result, sym, refl, ap, ◌∙◌, subst, inl, inr, arith, MatchResult}
 use Rattle.std.specs.List.{flat_map, AllByRecursion as All}
 use Rattle.std.proofs.lemmas.List.{take_at, drop_at}
-use Rattle.std.proofs.ByRecursion.{All-append}
-use Rattle.std.proofs.lemmas.Bool.{cases_Bool, true≢false, cond-true, cond-false, eq-eqb, ne_eqb, and_from, lt-ltb}
-use Rattle.format.specs.Fields.{fields, range, LegalValue}
-use Rattle.format.specs.Words.{word, value_end, kind_of, field_of, value_of}
+use Rattle.std.proofs.lemmas.Bool.{cases_Bool, true≢false, cond-true, cond-false, eq-eqb, ne_eqb}
+use Rattle.format.specs.Words.{word, kind_of, value_of}
 use Rattle.faults.specs.declared.layers.FrameFault.{FrameFault}
 use Rattle.faults.specs.declared.layers.FrameFault.TheVariants.{Length, BadWord, NoRoom}
 use Rattle.frames.specs.Frames.{before, FrameValues, NoFrame, frame_words}
 use Rattle.weights.specs.Weights.{Ops, Laws, Weight}
 use Rattle.tables.specs.Rows.{Pair, Emission, Row, emission_words, row_words, LegalPairs, LegalEmission, LegalRow, LegalRows}
 use Rattle.tables.specs.Emits.{Sent, sent_words, holds, replaced, same, joins, emits, In, Ascending, Answer}
-use Rattle.tables.specs.Scans.{put, applied, sends, weight_in, RowSent, RowFull}
+use Rattle.tables.specs.Scans.{applied, sends, weight_in, RowSent, RowFull}
 use Rattle.tables.specs.Forwards.{Decides, Written, Answered, Overfull, Refused}
 use Rattle.tables.proofs.Parts.{parts_of_word, few_pairs, fit_pair}
 use Rattle.tables.proofs.Scans.{same_decides, put_some}

@@ -1,6 +1,6 @@
 -- Words by their parts, and the number of a row's matches.
-use Rattle.std.proofs.Common.{◌≡◌, ℕ, zero, suc, ◌+◌, ◌*◌, ◌<◌, ◌≤◌, List, [], ◌∷◌, ◌++◌, map, length, get_or, drop, sym, refl, ap, ◌∙◌, subst, arith}
-use Rattle.format.specs.Fields.{fields, LegalValue}
+use Rattle.std.proofs.Common.{◌≡◌, ℕ, suc, ◌+◌, ◌<◌, ◌≤◌, List, [], ◌∷◌, length, get_or, drop, ap, arith}
+use Rattle.format.specs.Fields.{fields}
 use Rattle.format.specs.Words.{word, value_end, kind_of, field_of, value_of}
 use Rattle.tables.specs.Rows.{Pair, LegalPairs}
 

@@ -1,13 +1,13 @@
 -- How far the check has come in a table's words.
-use Rattle.std.proofs.Common.{◌≡◌, ℕ, zero, suc, ◌+◌, ◌<◌, ◌≤◌, true, false, List, [], ◌∷◌, ◌++◌, map, length, get_or, take, sym, refl, ap, ◌∙◌, subst, append_assoc, arith, length-append}
+use Rattle.std.proofs.Common.{◌≡◌, ℕ, ◌+◌, ◌<◌, true, false, List, [], ◌∷◌, ◌++◌, map, length, get_or, take, sym, refl, ap, ◌∙◌, subst, append_assoc, arith, length-append}
 use Rattle.std.specs.List.{flat_map}
 use Rattle.std.proofs.lemmas.List.{take_more, take_all, append-nil}
 use Rattle.format.specs.Words.{word}
 use Rattle.weights.specs.Weights.{Ops, Laws}
 use Rattle.tables.specs.declared.state.State.{State}
 use Rattle.tables.specs.declared.state.State.TheVariants.{Head, Matches, Emissions, Sets, End}
-use Rattle.tables.specs.Rows.{Row, LegalRows, LegalTable, row_words, emission_words}
-use Rattle.tables.specs.Checking.{RowsRest, EmissionsRest, MatchesRest, SetsRest, Rest, Open, Takes, Stops}
+use Rattle.tables.specs.Rows.{LegalTable, row_words, emission_words}
+use Rattle.tables.specs.Checking.{RowsRest, EmissionsRest, Rest, Open, Takes, Stops}
 use Rattle.tables.proofs.Checks.{completes}
 
 -- after i words, what completes a legal table is what completes it from the state

@@ -1,5 +1,5 @@
 -- What a table does with a frame. A frame is the list of its values, field 0 first.
-use Rattle.std.specs.Prelude.{◌≡◌, ℕ, suc, Bool, true, false, cond, ◌&&◌, ◌⊎◌, List, [], ◌∷◌, ◌++◌, map, ◌==◌, ◌≢◌, slice_index, slice_set}
+use Rattle.std.specs.Prelude.{◌≡◌, ℕ, suc, Bool, true, false, cond, ◌&&◌, ◌⊎◌, List, [], ◌∷◌, map, ◌==◌, ◌≢◌, slice_index, slice_set}
 use Rattle.frames.specs.Frames.{before, frame_words}
 use Rattle.format.specs.Fields.{fields}
 use Rattle.format.specs.Words.{word}

@@ -1,5 +1,5 @@
 -- What a scan of words finds, whatever the words are.
-use Rattle.std.specs.Prelude.{◌≡◌, ℕ, suc, ◌*◌, ◌<◌, ◌≤◌, Bool, true, cond, ◌&&◌, ◌||◌, List, [], ◌∷◌, ◌++◌, map, length, drop, set, Some, None, Option, ◌==◌, nat_lt, slice_index, slice_set}
+use Rattle.std.specs.Prelude.{◌≡◌, ℕ, suc, ◌*◌, ◌<◌, ◌≤◌, Bool, true, cond, ◌&&◌, ◌||◌, List, [], ◌∷◌, ◌++◌, map, length, drop, Some, None, Option, ◌==◌, nat_lt, slice_index, slice_set}
 use Rattle.std.specs.List.{flat_map}
 use Rattle.format.specs.Fields.{fields, range}
 use Rattle.format.specs.Words.{kind_of, field_of, value_of}

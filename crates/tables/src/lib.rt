@@ -1,4 +1,6 @@
 // Tables of match rows: checked word by word, looked up, and frames forwarded through them.
+#![tactic(auto)]
+
 mod check;
 mod forward;
 mod lookup;

@@ -1,12 +1,12 @@
 -- With which lexeme bytes begin, by their first byte.
-use Rattle.std.proofs.Common.{◌≡◌, ℕ, ◌+◌, ◌<◌, ◌≤◌, Bool, true, false, cond, eqb, List, [], ◌∷◌, length, get_or, take, drop, Some, None, Option, sym, refl, ap, ◌∙◌, add-zero, arith}
+use Rattle.std.proofs.Common.{◌≡◌, ℕ, ◌+◌, ◌<◌, true, false, cond, eqb, List, ◌∷◌, length, get_or, take, drop, Some, None, ap, ◌∙◌, add-zero}
 use Rattle.std.specs.List.{prefix_len}
 use Rattle.std.proofs.lemmas.List.{drop_more, get_or-drop}
 use Rattle.std.proofs.lemmas.Bool.{cond-true, cond-false}
 use Rattle.tokens.specs.declared.tokens.Class.TheVariants.{Letter, Digit}
 use Rattle.tokens.specs.declared.tokens.Mark.{Mark}
 use Rattle.tokens.specs.declared.tokens.Mark.TheVariants.{Assign}
-use Rattle.tokens.specs.Lexing.{belongs_to, Lexeme, word, number, mark, mark_of, front, cut, Starts, single}
+use Rattle.tokens.specs.Lexing.{belongs_to, word, number, mark, mark_of, front, cut, Starts, single}
 
 module _ (text : List ℕ) (at : ℕ) (inside : at < length text) where
   abbrev first : ℕ

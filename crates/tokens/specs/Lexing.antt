@@ -1,8 +1,8 @@
 -- How a text is cut into tokens.
-use Rattle.std.specs.Prelude.{◌≡◌, ℕ, ◌+◌, ◌-◌, ◌<◌, ◌≤◌, Bool, true, false, cond, ◌&&◌, ◌||◌, List, [], ◌∷◌, length, take, drop, Some, None, Ok, Err, Option, Result, ◌==◌, nat_le, slice_index}
+use Rattle.std.specs.Prelude.{◌≡◌, ℕ, ◌+◌, ◌-◌, ◌<◌, ◌≤◌, Bool, cond, ◌&&◌, ◌||◌, List, [], ◌∷◌, length, take, drop, Some, None, Ok, Err, Option, Result, ◌==◌, nat_le, slice_index}
 use Rattle.std.specs.List.{prefix_len}
 use Rattle.faults.specs.declared.layers.TokenFault.{TokenFault}
-use Rattle.faults.specs.declared.layers.TokenFault.TheVariants.{NoToken, BigNumber}
+use Rattle.faults.specs.declared.layers.TokenFault.TheVariants.{NoToken}
 use Rattle.tokens.specs.declared.tokens.Class.{Class}
 use Rattle.tokens.specs.declared.tokens.Class.TheVariants.{Blank, Letter, Digit}
 use Rattle.tokens.specs.declared.tokens.Mark.{Mark}

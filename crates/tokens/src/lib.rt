@@ -1,4 +1,6 @@
 // Policy text cut into tokens, and what each token stands for.
+#![tactic(auto)]
+
 mod lexer;
 mod symbols;
 mod tokens;

@@ -1,4 +1,6 @@
 // Walks over weighted steps: how many rounds of star are enough.
+#![tactic(auto)]
+
 ghost use Rattle.std.specs.Prelude.{◌≡◌, ◌<◌, ◌≤◌, IfSome, IfNone};
 ghost use Rattle.walks.specs.Walks.{Same, Steps, Weighed};
 ghost use Rattle.walks.specs.Rounds.{Rounds};

@@ -1,4 +1,6 @@
 // Weight kinds: what the weights of a policy are and how they combine.
+#![tactic(auto)]
+
 ghost use Rattle.std.specs.Prelude.{◌≡◌, ◌≤◌};
 ghost use Rattle.format.specs.Limits.{cost_limit};
 ghost use Rattle.weights.specs.Weights.{Ops, Laws, Weight};

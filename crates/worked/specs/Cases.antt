@@ -13,7 +13,7 @@ use Rattle.meaning.specs.Diagrams.{Diagram, Leaf, weigh}
 use Rattle.meaning.specs.Constructions.{Compiles}
 use Rattle.listing.specs.Rows.{rows_of}
 use Rattle.tables.specs.Rows.{table_words}
-use Rattle.tables.specs.Emits.{Sent, Answer}
+use Rattle.tables.specs.Emits.{Answer}
 
 -- the fields of the cases
 abbrev pub pt : ℕ

@@ -1,4 +1,4 @@
-use Rattle.std.proofs.Common.{◌≡◌, ◌+◌, ◌-◌, vec_items, arith}
+use Rattle.std.proofs.Common.{◌+◌, ◌-◌, vec_items, arith}
 use Rattle.tables.specs.Emits.{sent_length}
 use Rattle.replays.proofs.Emitted.{sent_more, sent_all}
 use Rattle.replays.proofs.push_emitted.Goals as goal

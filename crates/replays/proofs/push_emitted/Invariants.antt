@@ -1,4 +1,4 @@
-use Rattle.std.proofs.Common.{◌≡◌, ◌-◌, ◌≤◌, List, ◌++◌, length, drop, vec_items}
+use Rattle.std.proofs.Common.{◌≡◌, ◌-◌, ◌≤◌, List, length, drop, vec_items}
 use Rattle.std.specs.List.{flat_map, AllByRecursion as All}
 use Rattle.tables.specs.Emits.{Sent, sent_length, sent_words}
 use Rattle.replays.proofs.Emitted.{Said}

@@ -1,4 +1,4 @@
-use Rattle.std.proofs.Common.{◌≡◌, ◌+◌, ◌-◌, length, drop, vec_items, sym, arith}
+use Rattle.std.proofs.Common.{◌+◌, ◌-◌, length, drop, vec_items, arith}
 use native.Mathlib.Nat.{min-le_left}
 use Rattle.std.proofs.lemmas.List.{drop_all}
 use Rattle.format.specs.Fields.{fields}

@@ -1,4 +1,4 @@
-use Rattle.std.proofs.Common.{◌≡◌, ◌++◌, length, vec_items, sym, ap, ◌∙◌, rules}
+use Rattle.std.proofs.Common.{◌++◌, length, vec_items, ap, ◌∙◌, rules}
 use Rattle.lines.specs.Lines.{table_lines}
 use Rattle.replays.proofs.Records.{recorded, table_checked}
 use Rattle.replays.proofs.replayed.Goals as goal

@@ -1,6 +1,5 @@
-use Rattle.std.proofs.Common.{[], ◌∷◌, sym, ap, ◌∙◌, arith}
+use Rattle.std.proofs.Common.{ap, ◌∙◌, arith}
 use Rattle.format.specs.Policy.{Policy}
-use Rattle.format.specs.Words.{word}
 use Rattle.grammar.specs.Trees.{value, legal}
 use Rattle.grammar.proofs.Decisions.{legal_decided, same_setting}
 use Rattle.grammar.proofs.decide.at_test.Goals as goal

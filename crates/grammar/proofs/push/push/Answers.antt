@@ -1,6 +1,5 @@
-use Rattle.std.proofs.Common.{◌≡◌, sym, ap, ◌∙◌, subst, arith}
 use Rattle.std.proofs.lemmas.Result.{err_from_is_err_and}
-use Rattle.grammar.specs.Reading.{Stops, unexpected}
+use Rattle.grammar.specs.Reading.{unexpected}
 use Rattle.grammar.proofs.Pushing.{none_decided, decided, fault, possible, stands}
 use Rattle.grammar.proofs.push.push.Goals as goal
 

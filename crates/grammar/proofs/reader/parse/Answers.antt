@@ -1,6 +1,6 @@
-use Rattle.std.proofs.Common.{◌≡◌, [], ◌∷◌, ◌++◌, length, Some, None, sym, refl, ap, ◌∙◌, subst, arith}
+use Rattle.std.proofs.Common.{◌≡◌, [], ◌∷◌, ◌++◌, length, Some, None, sym, ◌∙◌, subst, arith}
 use Rattle.std.proofs.lemmas.Result.{err_from_is_err_and}
-use Rattle.grammar.specs.Reading.{Lexes, Refused, Stops, Answers, room_in}
+use Rattle.grammar.specs.Reading.{Lexes, Refused, Answers, room_in}
 use Rattle.grammar.proofs.Finishing.{accepted}
 use Rattle.grammar.proofs.Whole.{found, symbol_found, symbol_missing, nothing_found, answers, at_room, at_place}
 use Rattle.grammar.proofs.reader.parse.Goals as goal

@@ -1,6 +1,6 @@
 use Rattle.std.proofs.Common.{◌≡◌, ◌-◌, List, length}
 use Rattle.tokens.specs.declared.tokens.Symbol.{Symbol}
-use Rattle.grammar.specs.Reading.{Lexes, room_in}
+use Rattle.grammar.specs.Reading.{Lexes}
 use Rattle.grammar.specs.Standing.{Stands}
 use Rattle.grammar.proofs.reader.parse.Given as goal
 

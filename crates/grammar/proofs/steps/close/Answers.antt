@@ -1,4 +1,4 @@
-use Rattle.std.proofs.Common.{◌≡◌, ◌+◌, ◌-◌, ◌≤◌, ◌++◌, length, get_or, sym, ap, ◌∙◌, subst, arith}
+use Rattle.std.proofs.Common.{◌≡◌, ◌-◌, ◌++◌, get_or, sym, ap, ◌∙◌, subst, arith}
 use Rattle.grammar.specs.declared.machine.Frame.TheVariants.{Negation}
 use Rattle.grammar.specs.Trees.{closes, summed}
 use Rattle.grammar.specs.Outlines.{Outline, Appended, Stacked, frame_level, level_of, level_words, not_words, outer}

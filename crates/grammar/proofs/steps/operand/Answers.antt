@@ -1,4 +1,4 @@
-use Rattle.std.proofs.Common.{◌≡◌, ◌+◌, ◌≤◌, ◌++◌, length, sym, ap, ◌∙◌, subst, arith, length-append}
+use Rattle.std.proofs.Common.{◌++◌, length, sym, ap, ◌∙◌, subst, arith, length-append}
 use Rattle.format.specs.Policy.{postfix}
 use Rattle.grammar.specs.Outlines.{Appended, not_words}
 use Rattle.grammar.proofs.Appending.{appended_then}

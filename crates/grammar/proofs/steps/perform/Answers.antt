@@ -1,4 +1,4 @@
-use Rattle.std.proofs.Common.{◌≡◌, set, Some, None, sym, refl, ap, ◌∙◌, subst, arith}
+use Rattle.std.proofs.Common.{◌≡◌, set, Some, None, refl, ap, ◌∙◌, subst, arith}
 use Rattle.grammar.specs.declared.machine.Action.{Action}
 use Rattle.grammar.specs.declared.machine.Frame.TheVariants.{Group}
 use Rattle.grammar.specs.Trees.{Act, negation, group, negate, opening, operand}

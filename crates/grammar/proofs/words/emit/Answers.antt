@@ -1,4 +1,4 @@
-use Rattle.std.proofs.Common.{◌+◌, [], ◌∷◌, set, sym, subst}
+use Rattle.std.proofs.Common.{◌+◌, [], ◌∷◌, set, subst}
 use Rattle.grammar.specs.Outlines.{Appended}
 use Rattle.grammar.proofs.Appending.{one_appended}
 use Rattle.grammar.proofs.words.emit.Goals as goal

@@ -1,7 +1,7 @@
-use Rattle.std.proofs.Common.{◌-◌, get_or, sym, ap, ◌∙◌, subst, arith}
+use Rattle.std.proofs.Common.{◌-◌, get_or, sym, ap, ◌∙◌, arith}
 use Rattle.grammar.specs.declared.machine.Frame.TheVariants.{Negation}
 use Rattle.grammar.specs.Outlines.{negates}
-use Rattle.grammar.proofs.Appending.{Turned, turned_none, turned_more, turned_ends, room_for_not}
+use Rattle.grammar.proofs.Appending.{turned_none, turned_more, turned_ends, room_for_not}
 use Rattle.grammar.proofs.words.settle.Goals as goal
 
 pub loop-left-init : goal.loop-left-init

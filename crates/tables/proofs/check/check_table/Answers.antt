@@ -1,4 +1,4 @@
-use Rattle.std.proofs.Common.{◌≡◌, sym, refl, ap, subst, arith}
+use Rattle.std.proofs.Common.{sym, refl, subst, arith}
 use Rattle.tables.specs.declared.check.Checker.{Checker}
 use Rattle.tables.proofs.Reached.{Reached, start_reached, reached_more, stuck_stops, early_stops, end_legal}
 use Rattle.tables.proofs.check.check_table.Goals as goal

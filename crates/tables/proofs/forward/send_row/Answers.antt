@@ -1,4 +1,4 @@
-use Rattle.std.proofs.Common.{◌≡◌, ℕ, suc, ◌+◌, ◌≤◌, length, refl, ap, ◌∙◌, arith}
+use Rattle.std.proofs.Common.{◌≡◌, suc, ◌+◌, ◌≤◌, length, refl, ap, ◌∙◌, arith}
 use Rattle.frames.specs.Frames.{frame_words}
 use Rattle.tables.specs.Scans.{sends, values_of}
 use Rattle.tables.proofs.Listed.{start_listed, listed_more, listed_full, listed_all, length_frame_words}

@@ -1,4 +1,4 @@
-use Rattle.std.proofs.Common.{◌≡◌, ◌+◌, ◌%◌, ap, ◌∙◌, arith}
+use Rattle.std.proofs.Common.{◌≡◌, ◌+◌, ◌%◌, ◌∙◌, arith}
 use Rattle.format.specs.Words.{word, value_of}
 use Rattle.tables.proofs.Puts.{put_sent}
 use Rattle.tables.proofs.forward.write_sent.Goals as goal

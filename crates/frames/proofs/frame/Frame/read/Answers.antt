@@ -1,7 +1,5 @@
-use Rattle.std.proofs.Common.{◌≡◌, ℕ, length, Ok, Err, subst, arith, ltb-false, ltb-true}
-use Rattle.format.specs.Fields.{fields}
+use Rattle.std.proofs.Common.{Err, arith, ltb-false, ltb-true}
 use Rattle.faults.specs.declared.layers.FrameFault.TheVariants.{Length}
-use Rattle.frames.specs.Frames.{NoFrame}
 use Rattle.frames.proofs.Words.{reads, eight}
 use Rattle.frames.proofs.frame.Frame.read.Goals as goal
 

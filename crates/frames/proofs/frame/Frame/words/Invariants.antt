@@ -1,6 +1,6 @@
-use Rattle.std.proofs.Common.{◌≡◌, ℕ, ◌+◌, ◌*◌, ◌<◌, length, get_or}
+use Rattle.std.proofs.Common.{◌≡◌, ℕ, ◌<◌, length, get_or}
 use Rattle.format.specs.Fields.{fields}
-use Rattle.format.specs.Words.{word, value_end}
+use Rattle.format.specs.Words.{word}
 use Rattle.frames.proofs.frame.Frame.words.Given as goal
 
 abbrev pub invariant-loop-place : goal.invariant-loop-place

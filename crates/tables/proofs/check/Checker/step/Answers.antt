@@ -1,5 +1,4 @@
-use Rattle.std.proofs.Common.{◌≡◌, sym, ◌∙◌, arith}
-use Rattle.format.specs.Words.{word}
+use Rattle.std.proofs.Common.{arith}
 use Rattle.tables.specs.declared.state.State.TheVariants.{Head, Matches, Emissions, Sets}
 use Rattle.tables.proofs.Checks.{expected, takes_at, takes_more_at, takes_next_at, takes_none, no_match, no_set}
 use Rattle.std.proofs.lemmas.Bool.{ne_eqb}

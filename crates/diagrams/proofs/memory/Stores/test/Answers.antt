@@ -1,7 +1,7 @@
 use Rattle.std.proofs.Common.{rules}
 use Rattle.std.proofs.lemmas.Result.{err_from_is_err_and}
 use Rattle.diagrams.proofs.Kept.{made_at, full_at, stays_at}
-use Rattle.diagrams.proofs.stores.Stores.test.Goals as goal
+use Rattle.diagrams.proofs.memory.Stores.test.Goals as goal
 
 pub returns-in_err-diagram : goal.returns-in_err-diagram
 returns-in_err-diagram g c =

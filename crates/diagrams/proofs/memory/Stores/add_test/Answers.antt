@@ -2,7 +2,7 @@ use Rattle.std.proofs.Common.{refl}
 use Rattle.std.proofs.lemmas.Result.{err_from_is_err_and}
 use Rattle.diagrams.specs.Tests.{TestFull}
 use Rattle.diagrams.proofs.Kept.{contents_alike}
-use Rattle.diagrams.proofs.stores.Stores.add_test.Goals as goal
+use Rattle.diagrams.proofs.memory.Stores.add_test.Goals as goal
 
 pub returns-in_err-action : goal.returns-in_err-action
 returns-in_err-action g c =
