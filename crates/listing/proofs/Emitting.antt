@@ -1,6 +1,6 @@
 -- A table emits what its diagram gives.
 use Rattle.std.proofs.Common.{◌≡◌, ℕ, Bool, true, false, cond, ◌&&◌, eqb, List, [], ◌∷◌, ◌++◌, map, length, get_or, sym, refl, ap, ◌∙◌, subst, ap₂}
-use Rattle.std.specs.List.{AllByRecursion as All}
+use Rattle.std.specs.List.{AllByRecursion}
 use Rattle.format.specs.Fields.{fields}
 use Rattle.format.specs.Actions.{apply}
 use Rattle.weights.specs.Weights.{Ops, Laws, Weight}
@@ -41,7 +41,7 @@ emits_first o rows i r s t h =
     ∙ skip h.earlier h.fail
     ∙ ap (λ (b : Bool). cond b (joins o s t o.zero r.emissions) (emits o h.later s t)) h.hold
   where
-    skip : (qs : List Row) → All (λ q. holds q.matches s ≡ false) qs → emits o (qs ++ (r ∷ h.later)) s t ≡ emits o (r ∷ h.later) s t
+    skip : (qs : List Row) → AllByRecursion (λ q. holds q.matches s ≡ false) qs → emits o (qs ++ (r ∷ h.later)) s t ≡ emits o (r ∷ h.later) s t
     skip [] k = refl
     skip (q ∷ qs) k =
         ap (λ (b : Bool). cond b (joins o s t o.zero q.emissions) (emits o (qs ++ (r ∷ h.later)) s t)) k.0 ∙ skip qs k.1

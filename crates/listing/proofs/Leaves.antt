@@ -3,7 +3,7 @@ use Rattle.std.proofs.Common.{◌≡◌, ℕ, ◌+◌, Bool, true, false, ◌&&�
 use mathlib.Core.List.{map-append}
 use lib.Dec.{eqb_refl}
 use lib.ListN.{length-map}
-use Rattle.std.specs.List.{AllByRecursion as All}
+use Rattle.std.specs.List.{AllByRecursion}
 use Rattle.tables.specs.Emits.{holds}
 use Rattle.meaning.specs.Decide.{choice, decide}
 use Rattle.meaning.specs.Leaves.{Frame}
@@ -32,7 +32,7 @@ record First (s : Frame) (ps : List Placed) (i : ℕ) (p : Placed) : Type 0 wher
   later : List Placed
   is : ps ≡ earlier ++ (p ∷ later)
   place : length earlier ≡ i
-  fail : All (λ q. holds q.way s ≡ false) earlier
+  fail : AllByRecursion (λ q. holds q.way s ≡ false) earlier
   hold : holds p.way s ≡ true
 
 first_yes :

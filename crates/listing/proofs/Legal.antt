@@ -1,7 +1,7 @@
 -- The rows of a well-formed diagram are legal, and a short list counts what it lists. Assumes nothing.
 use Rattle.std.proofs.Common.{◌≡◌, ℕ, suc, ◌+◌, ◌<◌, ◌≤◌, List, [], ◌∷◌, map, length, get_or, None, sym, refl, subst, zero-le, zero-add, arith, length-append}
 use lib.ListN.{length-map}
-use Rattle.std.specs.List.{flat_map, AllByRecursion as All}
+use Rattle.std.specs.List.{flat_map, AllByRecursion}
 use Rattle.format.specs.Words.{value_end, word}
 use Rattle.format.specs.Actions.{LegalSet}
 use Rattle.weights.specs.Weights.{Ops}
@@ -16,7 +16,7 @@ use Rattle.listing.proofs.Sets.{legal_sets}
 -- the end word can count the leaves, and a head the cells of each
 record Countable (d : Diagram) : Type 0 where
   leaves : length (leaves_of d) < value_end
-  cells : All (λ p. length p.cells < value_end) (leaves_of d)
+  cells : AllByRecursion (λ p. length p.cells < value_end) (leaves_of d)
 
 tests_all : (P : ℕ → ℕ → Type 0) → ((f n : ℕ) → P f n) → (d : Diagram) → Tests P d
 tests_all P h (Leaf l) = tt
@@ -34,7 +34,7 @@ module _ (o : Ops) where
             0 zero-le;
       }
 
-  emissions_legal : (l : List Cell) → Each (CellFormed o) l → All (LegalEmission o) (map emission_of l)
+  emissions_legal : (l : List Cell) → Each (CellFormed o) l → AllByRecursion (LegalEmission o) (map emission_of l)
   emissions_legal [] h = tt
   emissions_legal (c ∷ l) h = (emission_legal c h.0, emissions_legal l h.1)
 
@@ -42,7 +42,7 @@ module _ (o : Ops) where
   abbrev PlacedFormed : ℕ → Placed → Type 0
   PlacedFormed b p = LegalPairs b p.way × LeafFormed o p.cells
 
-  leaves_formed : (b : ℕ) (d : Diagram) → Formed o d → Tests (λ g m. b ≤ g) d → All (PlacedFormed b) (leaves_of d)
+  leaves_formed : (b : ℕ) (d : Diagram) → Formed o d → Tests (λ g m. b ≤ g) d → AllByRecursion (PlacedFormed b) (leaves_of d)
   leaves_formed b (Leaf l) h t = ((tt, h), tt)
   leaves_formed b (Node f n y z) h t =
       all_append (PlacedFormed b) (map (behind f n) (leaves_of y)) (leaves_of z)
@@ -100,7 +100,7 @@ rows_length (r ∷ rows) =
 table_length : (rows : List Row) → length (table_words rows) ≡ length (flat_map row_words rows) + 1
 table_length rows = length-append (flat_map row_words rows) (word 14 0 (length rows) ∷ [])
 
-rows_short : (b : ℕ) (rows : List Row) → length (flat_map row_words rows) ≤ b → All (λ r. length r.emissions < b) rows
+rows_short : (b : ℕ) (rows : List Row) → length (flat_map row_words rows) ≤ b → AllByRecursion (λ r. length r.emissions < b) rows
 rows_short b [] h = tt
 rows_short b (r ∷ rows) h = (
   omega (arith, row_length r, length-append (row_words r) (flat_map row_words rows)),

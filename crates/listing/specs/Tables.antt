@@ -1,6 +1,6 @@
 -- What the table of a diagram is and does.
 use Rattle.std.specs.Prelude.{◌≡◌, ℕ, ◌+◌, ◌≤◌, true, false, List, [], ◌∷◌, ◌++◌, length, slice_index}
-use Rattle.std.specs.List.{AllByRecursion as All}
+use Rattle.std.specs.List.{AllByRecursion}
 use Rattle.weights.specs.Weights.{Ops}
 use Rattle.tables.specs.Rows.{Pair, Row, LegalRows, LegalTable, table_words}
 use Rattle.tables.specs.Emits.{holds, emits}
@@ -31,7 +31,7 @@ pub record FirstMatch (s : Frame) (rows : List Row) (i : ℕ) (r : Row) : Type 0
   pub later : List Row
   pub is : rows ≡ earlier ++ (r ∷ later)
   pub place : length earlier ≡ i
-  pub fail : All (λ q. holds q.matches s ≡ false) earlier
+  pub fail : AllByRecursion (λ q. holds q.matches s ≡ false) earlier
   pub hold : holds r.matches s ≡ true
 
 -- the first row that matches a frame is the row of the leaf that the frame reaches, at that leaf's place
@@ -41,7 +41,7 @@ FirstMatchIsTheLeafReached = (d : Diagram) (s : Frame) → FirstMatch s (rows_of
 -- there are so many leaves, and no leaf has more than so many cells
 pub record Sized (leaves cells : ℕ) (d : Diagram) : Type 0 where
   pub leaf_count : length (leaves_of d) ≡ leaves
-  pub cell_counts : All (λ p. length p.cells ≤ cells) (leaves_of d)
+  pub cell_counts : AllByRecursion (λ p. length p.cells ≤ cells) (leaves_of d)
 
 -- the rows of the diagram are legal, and so their words are a legal table
 pub record ListedLegally (o : Ops) (d : Diagram) : Type 0 where

@@ -1,6 +1,6 @@
 -- A line for each emitted frame.
 use Rattle.std.proofs.Common.{◌≡◌, ℕ, ◌+◌, ◌-◌, ◌<◌, ◌≤◌, List, [], ◌∷◌, ◌++◌, length, take, drop, sym, refl, ap, ◌∙◌, subst, append_assoc, append-nil, arith, length-append, length-drop}
-use Rattle.std.specs.List.{flat_map, AllByRecursion as All}
+use Rattle.std.specs.List.{flat_map, AllByRecursion}
 use Rattle.std.proofs.lemmas.List.{take_at, drop_at, drop-drop}
 use Rattle.tables.specs.Emits.{Sent, sent_length, sent_words}
 use Rattle.lines.specs.Lines.{emit_line}
@@ -14,11 +14,11 @@ line x = emit_line (sent_words x)
 -- the words left are those of the frames of which nothing is said yet
 pub record Said (left : List ℕ) (answer : List Sent) (was is : List ℕ) : Type 0 where
   pub due : List Sent
-  pub wide : All Wide due
+  pub wide : AllByRecursion Wide due
   pub words : left ≡ flat_map sent_words due
   pub text : is ++ flat_map line due ≡ was ++ flat_map line answer
 
-pub said_none : (answer : List Sent) (was : List ℕ) (ws : List ℕ) → All Wide answer → ws ≡ flat_map sent_words answer → Said ws answer was was
+pub said_none : (answer : List Sent) (was : List ℕ) (ws : List ℕ) → AllByRecursion Wide answer → ws ≡ flat_map sent_words answer → Said ws answer was was
 said_none answer was ws wide e = record { due = answer; wide = wide; words = e; text = refl }
 
 pub said_more :
@@ -29,7 +29,7 @@ pub said_more :
     Said (drop sent_length left) answer was is
 said_more left answer was mid is long s e = go s.due s.wide s.words s.text
   where
-    go : (due : List Sent) → All Wide due → left ≡ flat_map sent_words due → mid ++ flat_map line due ≡ was ++ flat_map line answer → Said (drop sent_length left) answer was is
+    go : (due : List Sent) → AllByRecursion Wide due → left ≡ flat_map sent_words due → mid ++ flat_map line due ≡ was ++ flat_map line answer → Said (drop sent_length left) answer was is
     go [] wide words text = let n = ap length words in absurd (omega arith)
     go (x ∷ due) wide words text =
         let t : take sent_length left ≡ sent_words x = ap (take sent_length) words ∙ take_at (sent_words x) (flat_map sent_words due) sent_length wide.0
@@ -45,7 +45,7 @@ pub said_all :
     is ≡ was ++ flat_map line answer
 said_all left answer was is short s = go s.due s.wide s.words s.text
   where
-    go : (due : List Sent) → All Wide due → left ≡ flat_map sent_words due → is ++ flat_map line due ≡ was ++ flat_map line answer → is ≡ was ++ flat_map line answer
+    go : (due : List Sent) → AllByRecursion Wide due → left ≡ flat_map sent_words due → is ++ flat_map line due ≡ was ++ flat_map line answer → is ≡ was ++ flat_map line answer
     go [] wide words text = sym (append-nil is) ∙ text
     go (x ∷ due) wide words text =
         let n : length left ≡ length (sent_words x) + length (flat_map sent_words due) = ap length words ∙ length-append (sent_words x) (flat_map sent_words due)

@@ -3,7 +3,7 @@ use Rattle.std.proofs.Common.{◌≡◌, ℕ, ◌+◌, ◌-◌, ◌<◌, ◌≤�
 use native.Mathlib.Nat.{min-eq_left, min-eq_right, min-le_right}
 use native.Mathlib.Decide.{dec_le}
 use Rattle.std.proofs.lemmas.List.{take_all, drop_all, drop-drop}
-use Rattle.std.specs.List.{flat_map, AllByRecursion as All}
+use Rattle.std.specs.List.{flat_map, AllByRecursion}
 use Rattle.faults.specs.declared.layers.FrameFault.{FrameFault}
 use Rattle.faults.specs.Lines.{refused_line}
 use Rattle.faults.specs.Shows.{frame_shown}
@@ -99,7 +99,7 @@ pub frame_answered :
     Answered o rows ws held count holds →
     n ≡ count →
     mid ≡ was ++ frame_line ws →
-    ((answer : List Sent) → All Wide answer → take n holds ≡ flat_map sent_words answer → is ≡ mid ++ flat_map line answer) →
+    ((answer : List Sent) → AllByRecursion Wide answer → take n holds ≡ flat_map sent_words answer → is ≡ mid ++ flat_map line answer) →
     (said : List ℕ) × FrameSaid o rows room ws said × (is ≡ was ++ said)
 frame_answered o rows room ws held holds count n was mid is a e f told =
     let w = a.3

@@ -1,7 +1,7 @@
 -- An emitted frame has as many values as the frame that came in.
 use Rattle.std.proofs.Common.{◌≡◌, ℕ, suc, ◌+◌, true, false, cond, ◌&&◌, eqb, List, [], ◌∷◌, length, set, sym, refl, ap, ◌∙◌, inl, inr, length-set}
 use native.Mathlib.Decide.{ℕ_discrete}
-use Rattle.std.specs.List.{AllByRecursion as All}
+use Rattle.std.specs.List.{AllByRecursion}
 use Rattle.format.specs.Fields.{fields}
 use Rattle.frames.specs.Frames.{words_from}
 use Rattle.weights.specs.Weights.{Ops}
@@ -47,7 +47,7 @@ pub answer_wide :
     (o : Ops) (rows : List Row) (s : List ℕ) (answer : List Sent) →
     length s ≡ fields →
     ((x : Sent) → In x answer → (emits o rows s x.frame ≡ x.weight) × (x.weight ≡ o.zero → ⊥)) →
-    All (λ x. length (sent_words x) ≡ sent_length) answer
+    AllByRecursion (λ x. length (sent_words x) ≡ sent_length) answer
 answer_wide o rows s [] eight sound = tt
 answer_wide o rows s (x ∷ answer) eight sound =
     let here = sound x (inl refl)

@@ -2,7 +2,7 @@
 #![tactic(auto)]
 
 ghost use Rattle.std.specs.Prelude.{◌≡◌, ℕ, ◌*◌, min, List, ◌++◌, length, IfOk, MatchResult, OnOk};
-ghost use Rattle.std.specs.List.{flat_map, AllByRecursion as All};
+ghost use Rattle.std.specs.List.{flat_map, AllByRecursion};
 ghost use Rattle.faults.specs.declared.layers.TableFault.TheVariants.{Illegal};
 ghost use Rattle.faults.specs.Lines.{refused_line};
 ghost use Rattle.format.specs.Fields.{fields};
@@ -37,7 +37,7 @@ pub enum Kind {
 
 // Appends a line for each emitted frame.
 fn push_emitted(text: &mut Vec<u8>, words: &[u32]) -> Result<(), AllocError>
-    ensures { OnOk result ((answer : List Sent) → All (λ x. length (sent_words x) ≡ sent_length) answer → words.now ≡ flat_map sent_words answer → text.new.items ≡ text.old.items ++ flat_map (λ x. emit_line (sent_words x)) answer) }
+    ensures { OnOk result ((answer : List Sent) → AllByRecursion (λ x. length (sent_words x) ≡ sent_length) answer → words.now ≡ flat_map sent_words answer → text.new.items ≡ text.old.items ++ flat_map (λ x. emit_line (sent_words x)) answer) }
 {
     let mut at = 0;
     while words.len() - at >= SENT_WORDS {

@@ -1,6 +1,6 @@
 -- What a row sends is what the table emits.
 use Rattle.std.proofs.Common.{◌≡◌, ℕ, suc, ◌≤◌, Bool, true, false, cond, ◌⊎◌, List, [], ◌∷◌, ◌++◌, map, length, take, drop, set, IfOk, Ok, Err, Result, sym, refl, ap, ◌∙◌, subst, inl, inr, arith, MatchResult}
-use Rattle.std.specs.List.{flat_map, AllByRecursion as All}
+use Rattle.std.specs.List.{flat_map, AllByRecursion}
 use Rattle.std.proofs.lemmas.List.{take_at, drop_at}
 use Rattle.std.proofs.lemmas.Bool.{cases_Bool, true≢false, cond-true, cond-false, eq-eqb, ne_eqb}
 use Rattle.format.specs.Words.{word, kind_of, value_of}
@@ -30,11 +30,11 @@ send : List ℕ → Emission → Sent
 send s e = record { frame = replaced e.sets s; weight = e.weight }
 
 -- words of other kinds send nothing
-sends_past : (xs ys s : List ℕ) → All (λ w. kind_of w ≡ 12 → ⊥) xs → sends (xs ++ ys) s ≡ sends ys s
+sends_past : (xs ys s : List ℕ) → AllByRecursion (λ w. kind_of w ≡ 12 → ⊥) xs → sends (xs ++ ys) s ≡ sends ys s
 sends_past [] ys s a = refl
 sends_past (x ∷ xs) ys s a = cond-false _ _ _ (ne_eqb _ _ a.0) ∙ sends_past xs ys s a.1
 
-other_kinds : (k f : ℕ) (ps : List Pair) → (k ≡ 12 → ⊥) → LegalPairs f ps → All (λ w. kind_of w ≡ 12 → ⊥) (map (λ p. word k p.0 p.1) ps)
+other_kinds : (k f : ℕ) (ps : List Pair) → (k ≡ 12 → ⊥) → LegalPairs f ps → AllByRecursion (λ w. kind_of w ≡ 12 → ⊥) (map (λ p. word k p.0 p.1) ps)
 other_kinds k f [] n l = tt
 other_kinds k f (p ∷ ps) n l =
     ((λ e. n (sym (parts_of_word k p.0 p.1 (fit_pair f p ps l)).0 ∙ e)), other_kinds k (suc p.0) ps n l.3)
@@ -55,13 +55,13 @@ module _ {o : Ops} (laws : Laws o) where
       let z = parts_of_word 12 0 e.weight (omega arith, omega arith) in
       (z.0, z.2)
 
-  no_set_first : (es : List Emission) → All (LegalEmission o) es → (s : List ℕ) → applied (flat_map emission_words es) s ≡ s
+  no_set_first : (es : List Emission) → AllByRecursion (LegalEmission o) es → (s : List ℕ) → applied (flat_map emission_words es) s ≡ s
   no_set_first [] l s = refl
   no_set_first (e ∷ es) l s =
       let k = (weight_kind e l.0).0 in
       cond-false _ _ _ (ne_eqb (kind_of (word 12 0 e.weight)) 13 (λ x. omega (arith, k, x)))
 
-  sends_emissions : (es : List Emission) (s : List ℕ) → All (LegalEmission o) es → sends (flat_map emission_words es) s ≡ map (send s) es
+  sends_emissions : (es : List Emission) (s : List ℕ) → AllByRecursion (LegalEmission o) es → sends (flat_map emission_words es) s ≡ map (send s) es
   unfolding send
   sends_emissions [] s l = refl
   sends_emissions (e ∷ es) s l =
@@ -89,13 +89,13 @@ joins_sent o s t a [] = refl
 joins_sent o s t a (e ∷ es) = joins_sent o s t (cond (same (replaced e.sets s) t) (o.join a e.weight) a) es
 
 -- rows that do not hold emit nothing; the first that holds decides
-emits_none : (o : Ops) (rows : List Row) (s t : List ℕ) → All (λ r. holds r.matches s ≡ false) rows → emits o rows s t ≡ o.zero
+emits_none : (o : Ops) (rows : List Row) (s t : List ℕ) → AllByRecursion (λ r. holds r.matches s ≡ false) rows → emits o rows s t ≡ o.zero
 emits_none o [] s t a = refl
 emits_none o (r ∷ rows) s t a = cond-false _ _ _ a.0 ∙ emits_none o rows s t a.1
 
 emits_past :
     (o : Ops) (before rows : List Row) (s t : List ℕ) →
-    All (λ r. holds r.matches s ≡ false) before →
+    AllByRecursion (λ r. holds r.matches s ≡ false) before →
     emits o (before ++ rows) s t ≡ emits o rows s t
 emits_past o [] rows s t a = refl
 emits_past o (r ∷ before) rows s t a = cond-false _ _ _ a.0 ∙ emits_past o before rows s t a.1
@@ -104,7 +104,7 @@ emits_row : (o : Ops) (rows : List Row) (s ws found t : List ℕ) (d : Decides r
 emits_row o rows s ws found t d =
     ap (λ x. emits o x s t) d.order ∙ emits_past o d.before (d.row ∷ d.after) s t d.passed ∙ cond-true _ _ _ d.held
 
-legal_in : (o : Ops) (before : List Row) (r : Row) (after : List Row) → All (LegalRow o) (before ++ (r ∷ after)) → LegalRow o r
+legal_in : (o : Ops) (before : List Row) (r : Row) (after : List Row) → AllByRecursion (LegalRow o) (before ++ (r ∷ after)) → LegalRow o r
 legal_in o [] r after a = a.0
 legal_in o (x ∷ before) r after a = legal_in o before r after a.1
 
@@ -112,7 +112,7 @@ legal_in o (x ∷ before) r after a = legal_in o before r after a.1
 abbrev SomeWeight : Ops → ℕ → Type 0
 SomeWeight o w = Weight o w × (w ≡ o.zero → ⊥)
 
-sent_some : (o : Ops) (s : List ℕ) (es : List Emission) → All (LegalEmission o) es → All (λ x. SomeWeight o x.weight) (map (send s) es)
+sent_some : (o : Ops) (s : List ℕ) (es : List Emission) → AllByRecursion (LegalEmission o) es → AllByRecursion (λ x. SomeWeight o x.weight) (map (send s) es)
 unfolding send
 sent_some o s [] l = tt
 sent_some o s (e ∷ es) l = ((l.0.of_kind, l.0.nonzero), sent_some o s es l.1)
@@ -147,7 +147,7 @@ module _ {o : Ops} (laws : Laws o) where
   join_some_left : (a b : ℕ) → SomeWeight o a → Weight o b → SomeWeight o (o.join a b)
   join_some_left a b sa wb = (laws.join_weight a b sa.0 wb, λ e. sa.1 (join_left a b sa.0 wb e))
 
-  stays_some : (t : List ℕ) (a : ℕ) (xs : List Sent) → All (λ x. SomeWeight o x.weight) xs → SomeWeight o a → SomeWeight o (weight_in o t a xs)
+  stays_some : (t : List ℕ) (a : ℕ) (xs : List Sent) → AllByRecursion (λ x. SomeWeight o x.weight) xs → SomeWeight o a → SomeWeight o (weight_in o t a xs)
   stays_some t a [] l s = s
   stays_some t a (x ∷ xs) l s =
       stays_some t (cond (same x.frame t) (o.join a x.weight) a) xs l.1 (go (same x.frame t))
@@ -159,7 +159,7 @@ module _ {o : Ops} (laws : Laws o) where
   -- a frame that is sent has a nonzero joined weight
   becomes_some :
       (t : List ℕ) (a : ℕ) (xs : List Sent) →
-      All (λ x. SomeWeight o x.weight) xs →
+      AllByRecursion (λ x. SomeWeight o x.weight) xs →
       Weight o a →
       In t (frames_of xs) →
       SomeWeight o (weight_in o t a xs)
@@ -249,7 +249,7 @@ written_answer o rows s was n is xs a c e =
 
 pub none_written :
     (o : Ops) (rows : List Row) (s was : List ℕ) →
-    All (λ r. holds r.matches s ≡ false) rows →
+    AllByRecursion (λ r. holds r.matches s ≡ false) rows →
     Written o rows s was 0 was
 none_written o rows s was a =
     written_answer o rows s was 0 was []
@@ -263,7 +263,7 @@ none_written o rows s was a =
 
 module _ {o : Ops} (laws : Laws o) (rows : List Row) (legal : LegalRows o rows) (s ws found : List ℕ) (d : Decides rows s ws found) where
   row_legal : LegalRow o d.row
-  row_legal = legal_in o d.before d.row d.after (subst (All (LegalRow o)) d.order legal.each)
+  row_legal = legal_in o d.before d.row d.after (subst (AllByRecursion (LegalRow o)) d.order legal.each)
 
   sent : sends found s ≡ map (send s) d.row.emissions
   sent = ap (λ x. sends x s) d.found_is ∙ sends_row laws d.row s row_legal
@@ -272,8 +272,8 @@ module _ {o : Ops} (laws : Laws o) (rows : List Row) (legal : LegalRows o rows) 
   emitted t =
       emits_row o rows s ws found t d ∙ sym (joins_sent o s t o.zero d.row.emissions) ∙ ap (weight_in o t o.zero) (sym sent)
 
-  some : All (λ x. SomeWeight o x.weight) (sends found s)
-  some = subst (All (λ x. SomeWeight o x.weight)) (sym sent) (sent_some o s d.row.emissions row_legal.emissions_legal)
+  some : AllByRecursion (λ x. SomeWeight o x.weight) (sends found s)
+  some = subst (AllByRecursion (λ x. SomeWeight o x.weight)) (sym sent) (sent_some o s d.row.emissions row_legal.emissions_legal)
 
   sent_weight : (t : List ℕ) → In t (frames_of (sends found s)) → SomeWeight o (weight_in o t o.zero (sends found s))
   sent_weight t i = becomes_some laws t o.zero (sends found s) some laws.zero_weight i

@@ -1,6 +1,6 @@
 -- What each word of a table leads to.
 use Rattle.std.proofs.Common.{◌≡◌, ℕ, zero, suc, ◌+◌, ◌-◌, ◌<◌, ◌≤◌, Bool, true, false, ◌⊎◌, List, [], ◌∷◌, ◌++◌, map, length, sym, refl, ap, ◌∙◌, subst, inl, inr, append_assoc, arith}
-use Rattle.std.specs.List.{flat_map, AllByRecursion as All}
+use Rattle.std.specs.List.{flat_map, AllByRecursion}
 use Rattle.format.specs.Fields.{fields, LegalValue}
 use Rattle.format.specs.Words.{word, value_end, kind_of}
 use Rattle.weights.specs.Weights.{Ops, Laws, Weight}
@@ -35,7 +35,7 @@ module _ {o : Ops} where
     where
       go :
           (rows : List Row) →
-          All (LegalRow o) rows →
+          AllByRecursion (LegalRow o) rows →
           n + length rows < value_end →
           word 10 f v ∷ rest ≡ rows_and_end n rows →
           (n + 1 < value_end) × (f ≤ fields) × MatchesRest o (n + 1) 0 f v rest
@@ -107,7 +107,7 @@ module _ {o : Ops} where
     where
       go :
           (rows : List Row) →
-          All (LegalRow o) rows →
+          AllByRecursion (LegalRow o) rows →
           n + length rows < value_end →
           word 14 f v ∷ rest ≡ rows_and_end n rows →
           (f ≡ 0) × (v ≡ n) × (rest ≡ [])
@@ -135,7 +135,7 @@ module _ {o : Ops} where
     where
       go :
           (rows : List Row) →
-          All (LegalRow o) rows →
+          AllByRecursion (LegalRow o) rows →
           n + length rows < value_end →
           w ∷ rest ≡ rows_and_end n rows →
           (kind_of w ≡ 10) ⊎ (kind_of w ≡ 14)
@@ -279,7 +279,7 @@ module _ {o : Ops} (laws : Laws o) where
     where
       go :
           (es : List Emission) →
-          All (LegalEmission o) es →
+          AllByRecursion (LegalEmission o) es →
           length es ≡ due →
           w ∷ rest ≡ flat_map emission_words es ++ r.tail →
           ((kind_of w ≡ 12) × (0 < due)) ⊎ ((due ≡ 0) × RowsRest o n (w ∷ rest))
@@ -297,7 +297,7 @@ module _ {o : Ops} (laws : Laws o) where
     where
       go :
           (es : List Emission) →
-          All (LegalEmission o) es →
+          AllByRecursion (LegalEmission o) es →
           length es ≡ due →
           word 12 f v ∷ rest ≡ flat_map emission_words es ++ r.tail →
           (0 < due) × (f ≡ 0) × Weight o v × (v ≡ o.zero → ⊥) × SetsRest o n 0 (due - 1) rest
@@ -411,7 +411,7 @@ module _ {o : Ops} (laws : Laws o) where
   length_ones zero = refl
   length_ones (suc d) = ap suc (length_ones d)
 
-  legal_ones : (d : ℕ) → All (LegalEmission o) (ones d)
+  legal_ones : (d : ℕ) → AllByRecursion (LegalEmission o) (ones d)
   unfolding ones
   legal_ones zero = tt
   legal_ones (suc d) =

@@ -1,6 +1,6 @@
 -- The words of legal rows, scanned.
 use Rattle.std.proofs.Common.{◌≡◌, ℕ, suc, ◌+◌, ◌-◌, ◌<◌, true, false, ◌&&◌, eqb, ◌⊎◌, List, [], ◌∷◌, ◌++◌, map, length, get_or, take, drop, sym, refl, ap, ◌∙◌, subst, inl, inr, append_assoc, arith, length-append, length-drop}
-use Rattle.std.specs.List.{flat_map, AllByRecursion as All}
+use Rattle.std.specs.List.{flat_map, AllByRecursion}
 use Rattle.std.proofs.lemmas.List.{drop_more, drop_at, take_at, drop-drop, append-nil}
 use Rattle.std.proofs.ByRecursion.{All-append, All-weaker, All-push}
 use Rattle.std.proofs.lemmas.Bool.{and_parts, eq-eqb, ne_eqb, cond-true, cond-false}
@@ -22,15 +22,15 @@ set_words ps = map (λ p. word 13 p.0 p.1) ps
 abbrev end_word : ℕ → List ℕ
 end_word n = word 14 0 n ∷ []
 
-match_kinds : (f : ℕ) (ps : List Pair) → LegalPairs f ps → All (λ w. kind_of w ≡ 11) (match_words ps)
+match_kinds : (f : ℕ) (ps : List Pair) → LegalPairs f ps → AllByRecursion (λ w. kind_of w ≡ 11) (match_words ps)
 match_kinds f [] l = tt
 match_kinds f (p ∷ ps) l = ((parts_of_word 11 p.0 p.1 (fit_pair f p ps l)).0, match_kinds (suc p.0) ps l.3)
 
-pub set_kinds : (f : ℕ) (ps : List Pair) → LegalPairs f ps → All (λ w. kind_of w ≡ 13) (set_words ps)
+pub set_kinds : (f : ℕ) (ps : List Pair) → LegalPairs f ps → AllByRecursion (λ w. kind_of w ≡ 13) (set_words ps)
 set_kinds f [] l = tt
 set_kinds f (p ∷ ps) l = ((parts_of_word 13 p.0 p.1 (fit_pair f p ps l)).0, set_kinds (suc p.0) ps l.3)
 
-pub body_append : (xs ys : List ℕ) → All (λ w. closes w ≡ false) xs → body_length ys ≡ 0 → body_length (xs ++ ys) ≡ length xs
+pub body_append : (xs ys : List ℕ) → AllByRecursion (λ w. closes w ≡ false) xs → body_length ys ≡ 0 → body_length (xs ++ ys) ≡ length xs
 body_append [] ys a e = e
 body_append (x ∷ xs) ys a e = cond-false (closes x) _ _ a.0 ∙ ap suc (body_append xs ys a.1 e)
 
@@ -40,7 +40,7 @@ hold_append (x ∷ xs) ys s e =
     let p = and_parts _ (words_hold xs s) e in
     ap (λ b. b && words_hold (xs ++ ys) s) p.0 ∙ hold_append xs ys s p.1
 
-no_matches_hold : (ws s : List ℕ) → All (λ w. kind_of w ≡ 11 → ⊥) ws → words_hold ws s ≡ true
+no_matches_hold : (ws s : List ℕ) → AllByRecursion (λ w. kind_of w ≡ 11 → ⊥) ws → words_hold ws s ≡ true
 no_matches_hold [] s a = refl
 no_matches_hold (w ∷ ws) s a =
     ap (λ b. b && words_hold ws s) (cond-false _ _ _ (ne_eqb _ _ a.0)) ∙ no_matches_hold ws s a.1
@@ -63,8 +63,8 @@ joined_append f (x ∷ xs) ys = ap (λ t. f x ++ t) (joined_append f xs ys) ∙ 
 module _ {o : Ops} (laws : Laws o) where
   emission_kinds :
       (es : List Emission) →
-      All (LegalEmission o) es →
-      All (λ w. (kind_of w ≡ 12) ⊎ (kind_of w ≡ 13)) (flat_map emission_words es)
+      AllByRecursion (LegalEmission o) es →
+      AllByRecursion (λ w. (kind_of w ≡ 12) ⊎ (kind_of w ≡ 13)) (flat_map emission_words es)
   emission_kinds [] l = tt
   emission_kinds (e ∷ es) l =
       let small = laws.below_end e.weight l.0.of_kind in (
@@ -77,7 +77,7 @@ module _ {o : Ops} (laws : Laws o) where
   abbrev row_body : Row → List ℕ
   row_body r = match_words r.matches ++ flat_map emission_words r.emissions
 
-  body_open : (r : Row) → LegalRow o r → All (λ w. closes w ≡ false) (row_body r)
+  body_open : (r : Row) → LegalRow o r → AllByRecursion (λ w. closes w ≡ false) (row_body r)
   body_open r l =
       All-append _ (match_words r.matches) (flat_map emission_words r.emissions)
       (All-weaker (λ w. kind_of w ≡ 11) _ (λ w h. closes_not w (kind_of w) refl (λ x. omega (arith, h, x)) (λ x. omega (arith, h, x))) (match_words r.matches) (match_kinds 0 r.matches l.matches_legal))
@@ -97,7 +97,7 @@ module _ {o : Ops} (laws : Laws o) where
   end_kind n small = (parts_of_word 14 0 n (omega arith, small)).0
 
   -- behind a row comes a head or the end
-  tail_closes : (rows : List Row) (n : ℕ) → All (LegalRow o) rows → n < value_end → body_length (flat_map row_words rows ++ end_word n) ≡ 0
+  tail_closes : (rows : List Row) (n : ℕ) → AllByRecursion (LegalRow o) rows → n < value_end → body_length (flat_map row_words rows ++ end_word n) ≡ 0
   tail_closes [] n l small = cond-true _ _ _ (closes_by (word 14 0 n) (kind_of (word 14 0 n)) refl (inr (end_kind n small)))
   tail_closes (r ∷ rows) n l small =
       cond-true _ _ _ (closes_by (word 10 (length r.matches) (length r.emissions)) _ refl (inl (head_kind r l.0)))
@@ -117,8 +117,8 @@ pub record Passed (o : Ops) (rows : List Row) (s ws : List ℕ) (i : ℕ) : Type
   pub before : List Row
   pub after : List Row
   pub order : rows ≡ before ++ after
-  pub legal : All (LegalRow o) after
-  pub passed : All (λ r. holds r.matches s ≡ false) before
+  pub legal : AllByRecursion (LegalRow o) after
+  pub passed : AllByRecursion (λ r. holds r.matches s ≡ false) before
   pub place : i ≡ length (flat_map row_words before)
   pub rest : drop i ws ≡ flat_map row_words after ++ end_word (length rows)
 
@@ -132,8 +132,8 @@ pub record RowAt (o : Ops) (rows : List Row) (s ws : List ℕ) (i j : ℕ) : Typ
   pub row : Row
   pub after : List Row
   pub order : rows ≡ before ++ (row ∷ after)
-  pub legal : All (LegalRow o) (row ∷ after)
-  pub passed : All (λ r. holds r.matches s ≡ false) before
+  pub legal : AllByRecursion (LegalRow o) (row ∷ after)
+  pub passed : AllByRecursion (λ r. holds r.matches s ≡ false) before
   pub place : i ≡ length (flat_map row_words before)
   pub end : j ≡ i + length (row_words row)
   pub split : drop i ws ≡ row_words row ++ (flat_map row_words after ++ end_word (length rows))
@@ -152,7 +152,7 @@ module _ {o : Ops} (laws : Laws o) where
       go :
           (after : List Row) →
           rows ≡ p.before ++ after →
-          All (LegalRow o) after →
+          AllByRecursion (LegalRow o) after →
           get_or ws i 0 ∷ drop (i + 1) ws ≡ flat_map row_words after ++ end_word (length rows) →
           RowAt o rows s ws i j
       go [] order legal h =
@@ -230,16 +230,16 @@ module _ {o : Ops} (laws : Laws o) where
       (rows : List Row) (s ws : List ℕ) (i : ℕ) →
       Passed o rows s ws i →
       (i < length ws → kind_of (get_or ws i 0) ≡ 10 → ⊥) →
-      All (λ r. holds r.matches s ≡ false) rows
+      AllByRecursion (λ r. holds r.matches s ≡ false) rows
   all_passed rows s ws i p no_head = go p.after p.order p.legal p.rest
     where
       go :
           (after : List Row) →
           rows ≡ p.before ++ after →
-          All (LegalRow o) after →
+          AllByRecursion (LegalRow o) after →
           drop i ws ≡ flat_map row_words after ++ end_word (length rows) →
-          All (λ r. holds r.matches s ≡ false) rows
-      go [] order legal h = subst (All (λ r. holds r.matches s ≡ false)) (sym (order ∙ append-nil p.before)) p.passed
+          AllByRecursion (λ r. holds r.matches s ≡ false) rows
+      go [] order legal h = subst (AllByRecursion (λ r. holds r.matches s ≡ false)) (sym (order ∙ append-nil p.before)) p.passed
       go (r ∷ after) order legal h =
           let some : 0 < length (drop i ws) = omega (arith, ap length h) in
           let l : i < length ws = omega (arith, length-drop i ws) in

@@ -1,6 +1,6 @@
 -- What may still come in each state of the check, for a legal table.
 use Rattle.std.specs.Prelude.{◌≡◌, ℕ, zero, suc, ◌+◌, ◌<◌, ◌≤◌, Bool, List, [], ◌∷◌, ◌++◌, map, length, take, MatchBool}
-use Rattle.std.specs.List.{flat_map, AllByRecursion as All}
+use Rattle.std.specs.List.{flat_map, AllByRecursion}
 use Rattle.format.specs.Fields.{fields}
 use Rattle.format.specs.Words.{word, value_end}
 use Rattle.weights.specs.Weights.{Ops}
@@ -11,7 +11,7 @@ use Rattle.tables.specs.Rows.{Pair, Emission, Row, emission_words, row_words, Le
 -- legal rows after the first n, and the end
 pub record RowsRest (o : Ops) (n : ℕ) (ws : List ℕ) : Type 0 where
   pub rows : List Row
-  pub legal : All (LegalRow o) rows
+  pub legal : AllByRecursion (LegalRow o) rows
   pub countable : n + length rows < value_end
   pub is : ws ≡ flat_map row_words rows ++ (word 14 0 (n + length rows) ∷ [])
 
@@ -20,7 +20,7 @@ pub record EmissionsRest (o : Ops) (n due : ℕ) (ws : List ℕ) : Type 0 where
   pub emissions : List Emission
   pub tail : List ℕ
   pub count : length emissions ≡ due
-  pub legal : All (LegalEmission o) emissions
+  pub legal : AllByRecursion (LegalEmission o) emissions
   pub later : RowsRest o n tail
   pub is : ws ≡ flat_map emission_words emissions ++ tail
 

@@ -1,6 +1,6 @@
 -- What looking a frame up and forwarding it promise.
 use Rattle.std.specs.Prelude.{◌≡◌, ℕ, ◌*◌, ◌<◌, true, false, List, ◌∷◌, ◌++◌, length, take, drop, ◌≢◌}
-use Rattle.std.specs.List.{flat_map, AllByRecursion as All}
+use Rattle.std.specs.List.{flat_map, AllByRecursion}
 use Rattle.faults.specs.declared.layers.FrameFault.{FrameFault}
 use Rattle.faults.specs.declared.layers.FrameFault.TheVariants.{Length, BadWord, NoRoom}
 use Rattle.frames.specs.Frames.{FrameValues, NoFrame, frame_words}
@@ -14,7 +14,7 @@ pub record Decides (rows : List Row) (s ws found : List ℕ) : Type 0 where
   pub row : Row
   pub after : List Row
   pub order : rows ≡ before ++ (row ∷ after)
-  pub passed : All (λ r. holds r.matches s ≡ false) before
+  pub passed : AllByRecursion (λ r. holds r.matches s ≡ false) before
   pub held : holds row.matches s ≡ true
   pub found_is : found ≡ row_words row
   pub part : found ≡ take (length found) (drop (length (flat_map row_words before)) ws)

@@ -1,6 +1,6 @@
 -- Tables of match rows, their words, and which tables are legal.
 use Rattle.std.specs.Prelude.{◌≡◌, ℕ, suc, ◌<◌, ◌≤◌, List, [], ◌∷◌, ◌++◌, map, length}
-use Rattle.std.specs.List.{flat_map, AllByRecursion as All}
+use Rattle.std.specs.List.{flat_map, AllByRecursion}
 use Rattle.format.specs.Fields.{fields, LegalValue}
 use Rattle.format.specs.Words.{word, value_end}
 use Rattle.weights.specs.Weights.{Ops, Weight}
@@ -48,11 +48,11 @@ pub record LegalEmission (o : Ops) (e : Emission) : Type 0 where
 pub record LegalRow (o : Ops) (r : Row) : Type 0 where
   pub matches_legal : LegalPairs 0 r.matches
   pub countable : length r.emissions < value_end
-  pub emissions_legal : All (LegalEmission o) r.emissions
+  pub emissions_legal : AllByRecursion (LegalEmission o) r.emissions
 
 -- legal rows, few enough for the end word to count
 pub record LegalRows (o : Ops) (rows : List Row) : Type 0 where
-  pub each : All (LegalRow o) rows
+  pub each : AllByRecursion (LegalRow o) rows
   pub countable : length rows < value_end
 
 -- words are a legal table if they are those of legal rows

@@ -1,6 +1,6 @@
 // The row that decides for a frame.
 ghost use Rattle.std.specs.Prelude.{◌≡◌, ℕ, ◌+◌, ◌≤◌, false, List, length, drop, MatchOption};
-ghost use Rattle.std.specs.List.{AllByRecursion as All};
+ghost use Rattle.std.specs.List.{AllByRecursion};
 ghost use Rattle.tables.specs.Rows.{Row, LegalRows, table_words};
 ghost use Rattle.tables.specs.Emits.{holds};
 ghost use Rattle.tables.specs.Scans.{closes, body_length, words_hold};
@@ -49,7 +49,7 @@ fn row_holds(row: &[u32], frame: &Frame) -> bool
 impl<'a, K: WeightKind> CheckedTable<'a, K> {
     // The first row whose matches all hold, as a part of the table.
     pub fn lookup(&self, frame: &Frame) -> Option<&'a [u32]>
-        ensures { (rows : List Row) → LegalRows K.WeightKind.ops rows → self.now.words.now ≡ table_words rows → MatchOption result (All (λ x. holds x.matches frame.now.values ≡ false) rows) (λ found. Decides rows frame.now.values self.now.words.now found.now) }
+        ensures { (rows : List Row) → LegalRows K.WeightKind.ops rows → self.now.words.now ≡ table_words rows → MatchOption result (AllByRecursion (λ x. holds x.matches frame.now.values ≡ false) rows) (λ found. Decides rows frame.now.values self.now.words.now found.now) }
     {
         let words = self.words;
         let mut at = 0;

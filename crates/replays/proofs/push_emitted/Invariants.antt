@@ -1,5 +1,5 @@
 use Rattle.std.proofs.Common.{◌≡◌, ◌-◌, ◌≤◌, List, length, drop, vec_items}
-use Rattle.std.specs.List.{flat_map, AllByRecursion as All}
+use Rattle.std.specs.List.{flat_map, AllByRecursion}
 use Rattle.tables.specs.Emits.{Sent, sent_length, sent_words}
 use Rattle.replays.proofs.Emitted.{Said}
 use Rattle.replays.proofs.push_emitted.Given as goal
@@ -8,7 +8,7 @@ abbrev pub invariant-loop-at : goal.invariant-loop-at
 invariant-loop-at l =
     (l.at ≤ length l.words)
     × ((answer : List Sent) →
-    All (λ x. length (sent_words x) ≡ sent_length) answer →
+    AllByRecursion (λ x. length (sent_words x) ≡ sent_length) answer →
     l.words ≡ flat_map sent_words answer →
     Said (drop l.at l.words) answer (vec_items l.initial.text) (vec_items l.text))
 
