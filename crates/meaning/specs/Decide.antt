@@ -1,6 +1,7 @@
 -- Decisions: whether two lists, actions or numbers are equal, and which of two comes first.
-use Rattle.std.specs.Prelude.{◌≡◌, ℕ, ◌<◌, ◌⊎◌, List, [], ◌∷◌, Some, None, Option, refl}
+use Rattle.std.specs.Prelude.{◌≡◌, ℕ, ◌<◌, ◌⊎◌, Bool, true, false, List, [], ◌∷◌, Some, None, Option, refl}
 use Rattle.std.proofs.Common.{sym, ap, ap₂, inl, inr, true≢false, arith}
+use Rattle.std.proofs.lemmas.Option.{none-some, same_Some}
 use Rattle.std.proofs.Math.Decide.{ℕ_discrete, dec_lt}
 use Rattle.format.specs.Actions.{SetBelow}
 
@@ -34,24 +35,38 @@ order m n = go (dec_lt m n) (ℕ_discrete m n)
 -- what an action does to one field, decided
 abbrev pub equal_sets : (x y : Option ℕ) → Dec (x ≡ y)
 equal_sets None None = yes refl
-equal_sets None (Some n) = no (λ e. true≢false (cc))
-equal_sets (Some m) None = no (λ e. true≢false (cc))
+equal_sets None (Some n) = no (λ e. none-some n e)
+equal_sets (Some m) None = no (λ e. none-some m (sym e))
 equal_sets (Some m) (Some n) = go (decide m n)
   where
     go : Dec (m ≡ n) → Dec (Some m ≡ Some n)
     go (yes e) = yes (ap {B = Option ℕ} Some e)
-    go (no h) = no (λ e. h (cc))
+    go (no h) = no (λ e. h (same_Some m n e))
+
+abbrev is_empty : {X : Type 0} → List X → Bool
+is_empty [] = true
+is_empty (x ∷ xs) = false
+
+-- the first element, or d where there is none
+abbrev first_or : {X : Type 0} → X → List X → X
+first_or d [] = d
+first_or d (x ∷ xs) = x
+
+-- all but the first element
+abbrev rest_of : {X : Type 0} → List X → List X
+rest_of [] = []
+rest_of (x ∷ xs) = xs
 
 abbrev pub equal_lists : {X : Type 0} → ((x y : X) → Dec (x ≡ y)) → (xs ys : List X) → Dec (xs ≡ ys)
 equal_lists same [] [] = yes refl
-equal_lists same [] (y ∷ ys) = no (λ e. true≢false (cc))
-equal_lists same (x ∷ xs) [] = no (λ e. true≢false (cc))
+equal_lists same [] (y ∷ ys) = no (λ e. true≢false (ap is_empty e))
+equal_lists same (x ∷ xs) [] = no (λ e. true≢false (sym (ap is_empty e)))
 equal_lists {X} same (x ∷ xs) (y ∷ ys) = go (same x y) (equal_lists same xs ys)
   where
     go : Dec (x ≡ y) → Dec (xs ≡ ys) → Dec (x ∷ xs ≡ y ∷ ys)
     go (yes e) (yes e') = yes (ap₂ {C = List X} (λ (a : X) (b : List X). a ∷ b) e e')
-    go (yes e) (no h) = no (λ p. h (cc))
-    go (no h) d = no (λ p. h (cc))
+    go (yes e) (no h) = no (λ p. h (ap rest_of p))
+    go (no h) d = no (λ p. h (ap (first_or x) p))
 
 -- the first field in which two actions differ decides; an action that ends comes first
 abbrev pub Before : List (Option ℕ) → List (Option ℕ) → Type 0

@@ -1,6 +1,6 @@
 -- Diagrams: decisions by tests of fields, with leaves at the ends.
-use Rattle.std.specs.Prelude.{◌≡◌, ℕ, zero, suc, ◌+◌, ◌<◌, ◌≢◌, ◌⊎◌, List, [], ◌∷◌, map, Some, None, Option, slice_index, slice_index_or}
-use Rattle.std.proofs.Common.{ap, true≢false}
+use Rattle.std.specs.Prelude.{◌≡◌, ℕ, Bool, true, false, zero, suc, ◌+◌, ◌<◌, ◌≢◌, ◌⊎◌, List, [], ◌∷◌, map, Some, None, Option, slice_index, slice_index_or}
+use Rattle.std.proofs.Common.{sym, ap, true≢false}
 use Rattle.format.specs.Fields.{fields, LegalValue}
 use Rattle.format.specs.Actions.{apply}
 use Rattle.weights.specs.Weights.{Ops}
@@ -20,23 +20,48 @@ equal_cells c e = go (equal_lists equal_sets c.0 e.0) (decide c.1 e.1)
     go (yes p) (no h) = no (λ r. h (ap (λ (x : Cell). x.1) r))
     go (no h) d = no (λ r. h (ap (λ (x : Cell). x.0) r))
 
+-- the parts of a diagram, and anything where it has none
+abbrev is_leaf : Diagram → Bool
+is_leaf (Leaf l) = true
+is_leaf (Node f n y z) = false
+
+abbrev leaf_cells : Diagram → List Cell
+leaf_cells (Leaf l) = l
+leaf_cells (Node f n y z) = []
+
+abbrev root_field : Diagram → ℕ
+root_field (Leaf l) = 0
+root_field (Node f n y z) = f
+
+abbrev root_value : Diagram → ℕ
+root_value (Leaf l) = 0
+root_value (Node f n y z) = n
+
+abbrev yes_side : Diagram → Diagram
+yes_side (Leaf l) = Leaf l
+yes_side (Node f n y z) = y
+
+abbrev no_side : Diagram → Diagram
+no_side (Leaf l) = Leaf l
+no_side (Node f n y z) = z
+
 -- whether two diagrams are the same
 abbrev pub equal_diagrams : (d e : Diagram) → Dec (d ≡ e)
 equal_diagrams (Leaf l) (Leaf m) = go (equal_lists equal_cells l m)
   where
     go : Dec (l ≡ m) → Dec (Leaf l ≡ Leaf m)
     go (yes p) = yes (ap {B = Diagram} Leaf p)
-    go (no h) = no (λ r. h (cc))
-equal_diagrams (Leaf l) (Node f n y z) = no (λ r. true≢false (cc))
-equal_diagrams (Node f n y z) (Leaf l) = no (λ r. true≢false (cc))
+    go (no h) = no (λ r. h (ap leaf_cells r))
+equal_diagrams (Leaf l) (Node f n y z) = no (λ r. true≢false (ap is_leaf r))
+equal_diagrams (Node f n y z) (Leaf l) = no (λ r. true≢false (sym (ap is_leaf r)))
 equal_diagrams (Node f n y z) (Node g m v w) = go (decide f g) (decide n m) (equal_diagrams y v) (equal_diagrams z w)
   where
     go : Dec (f ≡ g) → Dec (n ≡ m) → Dec (y ≡ v) → Dec (z ≡ w) → Dec (Node f n y z ≡ Node g m v w)
     go (yes p) (yes q) (yes r) (yes s) = yes (λ i. Node (p i) (q i) (r i) (s i))
-    go (yes p) (yes q) (yes r) (no h) = no (λ e. h (cc))
-    go (yes p) (yes q) (no h) s = no (λ e. h (cc))
-    go (yes p) (no h) r s = no (λ e. h (cc))
-    go (no h) q r s = no (λ e. h (cc))
+    go (yes p) (yes q) (yes r) (no h) = no (λ e. h (ap no_side e))
+    go (yes p) (yes q) (no h) s = no (λ e. h (ap yes_side e))
+    go (yes p) (no h) r s = no (λ e. h (ap root_value e))
+    go (no h) q r s = no (λ e. h (ap root_field e))
 
 -- the leaf that the frame reaches
 abbrev pub reach : Diagram → Frame → List Cell
