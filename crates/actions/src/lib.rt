@@ -3,4 +3,5 @@
 
 mod actions;
 
-pub use actions::{Action, WIDTH};
+pub use actions::Action;
+pub use frames::WIDTH;

@@ -1,4 +1,5 @@
 // Texts with what is read from them: cases from an independent implementation, and each limit from both sides.
+use super::outcomes::{Outcome, refused};
 use faults::Shown;
 use format::{TEXT_LIMIT, WORDS_LIMIT};
 use policy::read;
@@ -20,33 +21,15 @@ struct Refused {
     fault: Shown,
 }
 
-fn shown(number: u32, layer: u32, place: usize) -> Shown {
-    Shown {
-        number,
-        layer,
-        place,
-    }
-}
-
-// The refusal of a text, if it is refused, and whether memory is then as it has to be: zeros after a refusal, and as it was after the words.
-fn refusal(heap: Global, text: &[u8], room: usize) -> Result<(Option<Shown>, bool), AllocError> {
+// What becomes of a text where so many words of memory are lent.
+fn outcome(heap: Global, text: &[u8], room: usize) -> Result<Outcome, AllocError> {
     let mut memory = vec![in heap; 7u32; room]?;
-    match read(text, &mut memory) {
-        Ok(n) => {
-            let mut kept = true;
-            for word in memory.iter().skip(n) {
-                kept = kept && *word == 7;
-            }
-            Ok((None, kept))
-        }
-        Err(fault) => {
-            let mut cleared = true;
-            for word in &memory {
-                cleared = cleared && *word == 0;
-            }
-            Ok((Some(fault.shown()), cleared))
-        }
-    }
+    let outcome = match read(text, &mut memory) {
+        Ok(n) if memory.iter().skip(n).all(|word| *word == 7) => Outcome::Accepted,
+        Err(fault) if memory.iter().all(|word| *word == 0) => Outcome::Refused(Shown::from(fault)),
+        _ => Outcome::WrongMemory,
+    };
+    Ok(outcome)
 }
 
 // A piece of text as often as asked, between a front and a back.
@@ -58,9 +41,7 @@ fn repeated(
     back: &[u8],
 ) -> Result<Vec<u8>, AllocError> {
     let mut text = Vec::from_slice(heap, front)?;
-    for _ in 0..count {
-        text.extend_from_slice(piece)?;
-    }
+    text.extend_from_slice(&piece.repeat(heap, count)?)?;
     text.extend_from_slice(back)?;
     Ok(text)
 }
@@ -267,10 +248,10 @@ const ACCEPTED: [Accepted; 20] = [
 fn accepted_texts_give_their_words(rt: HostRuntime) -> Result<(), Fail> {
     for case in &ACCEPTED {
         let mut memory = vec![in rt.alloc(); 7u32; 64]?;
-        match read(case.text, &mut memory) {
-            Ok(n) => assert!(rt; n <= 64 && &memory.as_slice()[0..n] == case.words),
-            Err(_) => return Err(Fail::new("refused")),
-        }
+        let Ok(n) = read(case.text, &mut memory) else {
+            return Err(Fail::new("refused"));
+        };
+        assert!(rt; n <= 64 && &memory.as_slice()[0..n] == case.words);
     }
     Ok(())
 }
@@ -516,9 +497,10 @@ const REFUSED: [Refused; 26] = [
 #[test]
 fn refused_texts_give_their_fault(rt: HostRuntime) -> Result<(), Fail> {
     for case in &REFUSED {
-        let (fault, cleared) = refusal(rt.alloc(), case.text, case.room)?;
-        assert_eq!(rt; fault, Some(case.fault));
-        assert!(rt; cleared);
+        assert_eq!(rt;
+            outcome(rt.alloc(), case.text, case.room)?,
+            Outcome::Refused(case.fault)
+        );
     }
     Ok(())
 }
@@ -527,17 +509,11 @@ fn refused_texts_give_their_fault(rt: HostRuntime) -> Result<(), Fail> {
 fn nesting_ends_at_its_limit(rt: HostRuntime) -> Result<(), Fail> {
     let heap = rt.alloc();
     let deep = repeated(heap, b"", b"!", 64, b"drop")?;
-    assert_eq!(rt; refusal(heap, &deep, WORDS_LIMIT)?, (None, true));
+    assert_eq!(rt; outcome(heap, &deep, WORDS_LIMIT)?, Outcome::Accepted);
     let deeper = repeated(heap, b"", b"!", 65, b"drop")?;
-    assert_eq!(rt;
-        refusal(heap, &deeper, WORDS_LIMIT)?,
-        (Some(shown(4, 2, 64)), true)
-    );
+    assert_eq!(rt; outcome(heap, &deeper, WORDS_LIMIT)?, refused(4, 2, 64));
     let mixed = repeated(heap, b"", b"(", 64, b"!drop")?;
-    assert_eq!(rt;
-        refusal(heap, &mixed, WORDS_LIMIT)?,
-        (Some(shown(4, 2, 64)), true)
-    );
+    assert_eq!(rt; outcome(heap, &mixed, WORDS_LIMIT)?, refused(4, 2, 64));
     Ok(())
 }
 
@@ -545,17 +521,11 @@ fn nesting_ends_at_its_limit(rt: HostRuntime) -> Result<(), Fail> {
 fn text_ends_at_its_limit(rt: HostRuntime) -> Result<(), Fail> {
     let heap = rt.alloc();
     let full = repeated(heap, b"drop", b" ", TEXT_LIMIT - 4, b"")?;
-    assert_eq!(rt; refusal(heap, &full, 1)?, (None, true));
+    assert_eq!(rt; outcome(heap, &full, 1)?, Outcome::Accepted);
     let longer = repeated(heap, b"drop", b" ", TEXT_LIMIT - 3, b"")?;
-    assert_eq!(rt;
-        refusal(heap, &longer, 1)?,
-        (Some(shown(5, 2, TEXT_LIMIT)), true)
-    );
+    assert_eq!(rt; outcome(heap, &longer, 1)?, refused(5, 2, TEXT_LIMIT));
     let blank = repeated(heap, b"", b" ", TEXT_LIMIT + 1, b"")?;
-    assert_eq!(rt;
-        refusal(heap, &blank, 1)?,
-        (Some(shown(5, 2, TEXT_LIMIT)), true)
-    );
+    assert_eq!(rt; outcome(heap, &blank, 1)?, refused(5, 2, TEXT_LIMIT));
     Ok(())
 }
 
@@ -563,15 +533,15 @@ fn text_ends_at_its_limit(rt: HostRuntime) -> Result<(), Fail> {
 fn words_end_at_their_limit(rt: HostRuntime) -> Result<(), Fail> {
     let heap = rt.alloc();
     let full = repeated(heap, b"pass", b";pass", 2_047, b"*")?;
-    assert_eq!(rt; refusal(heap, &full, WORDS_LIMIT + 8)?, (None, true));
+    assert_eq!(rt; outcome(heap, &full, WORDS_LIMIT + 8)?, Outcome::Accepted);
     assert_eq!(rt;
-        refusal(heap, &full, WORDS_LIMIT - 1)?,
-        (Some(shown(5, 2, 10_239)), true)
+        outcome(heap, &full, WORDS_LIMIT - 1)?,
+        refused(5, 2, 10_239)
     );
     let longer = repeated(heap, b"pass", b";pass", 2_047, b"**")?;
     assert_eq!(rt;
-        refusal(heap, &longer, WORDS_LIMIT + 8)?,
-        (Some(shown(5, 2, 10_240)), true)
+        outcome(heap, &longer, WORDS_LIMIT + 8)?,
+        refused(5, 2, 10_240)
     );
     Ok(())
 }
@@ -580,16 +550,10 @@ fn words_end_at_their_limit(rt: HostRuntime) -> Result<(), Fail> {
 fn limits_hold_for_other_symbols(rt: HostRuntime) -> Result<(), Fail> {
     let heap = rt.alloc();
     let groups = repeated(heap, b"", b"(", 65, b"drop")?;
-    assert_eq!(rt;
-        refusal(heap, &groups, WORDS_LIMIT)?,
-        (Some(shown(4, 2, 64)), true)
-    );
+    assert_eq!(rt; outcome(heap, &groups, WORDS_LIMIT)?, refused(4, 2, 64));
     let unions = repeated(heap, b"pt=1", b"+pt=1", 2_048, b"")?;
-    assert_eq!(rt;
-        refusal(heap, &unions, WORDS_LIMIT)?,
-        (Some(shown(5, 2, 10_240)), true)
-    );
+    assert_eq!(rt; outcome(heap, &unions, WORDS_LIMIT)?, refused(5, 2, 10_240));
     let costs = repeated(heap, b"cost 65535", b";cost 65535", 255, b"")?;
-    assert_eq!(rt; refusal(heap, &costs, WORDS_LIMIT)?, (None, true));
+    assert_eq!(rt; outcome(heap, &costs, WORDS_LIMIT)?, Outcome::Accepted);
     Ok(())
 }

@@ -1,8 +1,10 @@
 // Words with the check's verdict: cases from an independent implementation, and each limit from both sides.
+use super::outcomes::shown;
 use faults::Shown;
 use format::{WAITING_LIMIT, WORDS_LIMIT};
 use policy::check as check_words;
 use std::alloc::{AllocError, Global};
+use std::iter;
 use std::test::Fail;
 
 // Words and their refusal.
@@ -12,19 +14,8 @@ struct Refused {
     fault: Shown,
 }
 
-fn shown(number: u32, layer: u32, place: usize) -> Shown {
-    Shown {
-        number,
-        layer,
-        place,
-    }
-}
-
 fn refusal(words: &[u32]) -> Option<Shown> {
-    match check_words(words) {
-        Ok(_) => None,
-        Err(fault) => Some(fault.shown()),
-    }
+    check_words(words).err().map(Shown::from)
 }
 
 const PASS: u32 = 0x1000_0000;
@@ -41,13 +32,8 @@ fn repeated(
     back: u32,
     backs: usize,
 ) -> Result<Vec<u32>, AllocError> {
-    let mut words = Vec::new(heap);
-    for _ in 0..fronts {
-        words.push(front)?;
-    }
-    for _ in 0..backs {
-        words.push(back)?;
-    }
+    let mut words = vec![in heap; front; fronts]?;
+    words.extend(iter::repeat_n(back, backs))?;
     Ok(words)
 }
 

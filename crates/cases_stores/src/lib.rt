@@ -6,27 +6,27 @@ mod tests {
     use actions::Action;
     use counts::{Counts, Sizes};
     use diagrams::Stores;
-    use faults::StoreFault;
+    use faults::Shown;
     use format::{Amount, Setting};
     use records::{Cell, Diagram, Node, Record};
     use stores::Store;
     use weights::Reach;
 
-    fn amount(number: u32) -> Amount {
-        match Amount::new(number) {
-            Some(amount) => amount,
-            None => Amount { number: 0 },
+    fn amount(number: u16) -> Amount {
+        Amount {
+            number: number.into(),
         }
     }
 
-    fn setting(field: u32, value: u32) -> Setting {
-        match Setting::new(field, value) {
-            Some(setting) => setting,
-            None => Setting { field: 0, value: 0 },
+    // A test or a setting of the port.
+    fn port(value: u16) -> Setting {
+        Setting {
+            field: 1,
+            value: value.into(),
         }
     }
 
-    fn cell(action: u32) -> Cell {
+    fn cell(action: u16) -> Cell {
         Cell {
             action: amount(action),
             weight: amount(1),
@@ -34,19 +34,11 @@ mod tests {
         }
     }
 
-    fn node(value: u32) -> Node {
+    fn node(value: u16) -> Node {
         Node {
-            test: setting(1, value),
+            test: port(value),
             yes: Diagram::Leaf(amount(1)),
             no: Diagram::drop_all(),
-        }
-    }
-
-    // The number that was given, 0 where the store was full.
-    fn number(answer: Result<Amount, StoreFault>) -> u32 {
-        match answer {
-            Ok(given) => given.number,
-            Err(_) => 0,
         }
     }
 
@@ -54,13 +46,15 @@ mod tests {
     fn fills<R: Record>(slots: &mut [R], first: R, second: R, third: R) -> bool {
         let mut store = Store { slots };
         let mut count = 0;
-        let a = number(store.enter(&mut count, first));
-        let b = number(store.enter(&mut count, second));
-        let full = number(store.enter(&mut count, third));
-        let again = number(store.enter(&mut count, first));
-        a == 1 && b == 2 && full == 0 && again == 1 && count == 2
+        let a = store.enter(&mut count, first).ok();
+        let b = store.enter(&mut count, second).ok();
+        let full = store.enter(&mut count, third).ok();
+        let again = store.enter(&mut count, first).ok();
+        let one = Some(amount(1));
+        a == one && b == Some(amount(2)) && full.is_none() && again == one && count == 2
     }
 
+    // A test for each kind of record, since its name says which store fails.
     #[test]
     fn actions_fill_their_store(rt: HostRuntime) {
         let keep = Action::keep_all();
@@ -69,8 +63,8 @@ mod tests {
             fills(
                 &mut slots,
                 keep,
-                Action::setting(setting(1, 2)),
-                Action::setting(setting(1, 3)),
+                Action::setting(port(2)),
+                Action::setting(port(3)),
             )
         );
     }
@@ -102,16 +96,10 @@ mod tests {
         }
     }
 
-    // The word of the diagram of a test on the port, 0 where it is refused.
-    fn word(stores: &mut Stores<'_>, counts: &mut Counts, port: u32) -> u32 {
-        match stores.test::<Reach>(counts, setting(1, port)) {
-            Ok(diagram) => diagram.word(),
-            Err(_) => 0,
-        }
-    }
-
-    fn are(counts: Counts, actions: u32, cells: u32, nodes: u32) -> bool {
-        counts.actions == actions && counts.cells == cells && counts.nodes == nodes
+    // The word of the diagram of a test on the port, none where it is refused.
+    fn word(stores: &mut Stores<'_>, counts: &mut Counts, value: u16) -> Option<u32> {
+        let diagram = stores.test::<Reach>(counts, port(value)).ok()?;
+        Some(diagram.into())
     }
 
     // In stores of these sizes the diagram is refused and nothing is in store.
@@ -119,7 +107,7 @@ mod tests {
         let mut counts = Counts::none();
         let mut stores = over(actions, cells, nodes);
         let refused = word(&mut stores, &mut counts, 3);
-        refused == 0 && are(counts, 0, 0, 0)
+        refused.is_none() && counts == Counts::none()
     }
 
     #[test]
@@ -154,30 +142,41 @@ mod tests {
         let first = word(&mut stores, &mut counts, 3);
         let other = word(&mut stores, &mut counts, 4);
         let again = word(&mut stores, &mut counts, 3);
-        assert!(rt; first == 0x1000_0001 && other == 0 && again == first && are(counts, 1, 1, 1));
+        let one_of_each = Counts {
+            actions: 1,
+            cells: 1,
+            nodes: 1,
+        };
+        assert_eq!(rt; first, Some(0x1000_0001));
+        assert_eq!(rt; other, None);
+        assert_eq!(rt; again, first);
+        assert_eq!(rt; counts, one_of_each);
     }
 
-    // The number of the memory that is refused, 0 for none.
-    fn wrong(actions: usize, cells: usize, nodes: usize, table_words: usize) -> usize {
+    // The number of the memory that is refused, if any is.
+    fn wrong(actions: usize, cells: usize, nodes: usize, table_words: usize) -> Option<usize> {
         let sizes = Sizes {
             actions,
             cells,
             nodes,
             table_words,
         };
-        match sizes.judge() {
-            Ok(()) => 0,
-            Err(fault) => fault.shown().place,
-        }
+        let fault = sizes.judge().err()?;
+        Some(Shown::from(fault).place)
     }
 
     #[test]
     fn memories_are_judged_in_order(rt: HostRuntime) {
-        assert!(rt; wrong(1, 1, 1, 2) == 0 && wrong(4_096, 16_384, 16_384, 65_536) == 0);
-        assert!(rt; wrong(0, 0, 0, 0) == 1 && wrong(4_097, 1, 1, 2) == 1);
-        assert!(rt; wrong(1, 0, 0, 0) == 2 && wrong(1, 16_385, 1, 2) == 2);
-        assert!(rt; wrong(1, 1, 0, 1) == 3 && wrong(1, 1, 16_385, 2) == 3);
-        assert!(rt; wrong(1, 1, 1, 1) == 4 && wrong(1, 1, 1, 65_537) == 4);
+        assert_eq!(rt; wrong(1, 1, 1, 2), None);
+        assert_eq!(rt; wrong(4_096, 16_384, 16_384, 65_536), None);
+        assert_eq!(rt; wrong(0, 0, 0, 0), Some(1));
+        assert_eq!(rt; wrong(4_097, 1, 1, 2), Some(1));
+        assert_eq!(rt; wrong(1, 0, 0, 0), Some(2));
+        assert_eq!(rt; wrong(1, 16_385, 1, 2), Some(2));
+        assert_eq!(rt; wrong(1, 1, 0, 1), Some(3));
+        assert_eq!(rt; wrong(1, 1, 16_385, 2), Some(3));
+        assert_eq!(rt; wrong(1, 1, 1, 1), Some(4));
+        assert_eq!(rt; wrong(1, 1, 1, 65_537), Some(4));
     }
 
     // Whether a word is that of a diagram among two cells and one node.
@@ -187,10 +186,7 @@ mod tests {
             cells: 2,
             nodes: 1,
         };
-        match counts.operand(1, bits) {
-            Ok(diagram) => diagram.word() == bits,
-            Err(_) => false,
-        }
+        counts.operand(1, bits).ok().map(u32::from) == Some(bits)
     }
 
     #[test]

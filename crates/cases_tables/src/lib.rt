@@ -6,6 +6,6 @@ mod checks;
 #[cfg(test)]
 mod forwards;
 #[cfg(test)]
-mod kinds;
-#[cfg(test)]
 mod memories;
+#[cfg(test)]
+mod through;

@@ -1,15 +1,14 @@
 // Frames through tables, with the whole of the memory afterwards.
-use super::kinds::Kind;
+use super::through::{JOINED, TABLE, forwarded};
 use cases_weights::Ports;
 use faults::Shown;
+use std::alloc::{AllocError, Global};
 use std::test::Fail;
-use tables::check_table;
-use weights::{Cost, Reach};
+use weights::{Cost, Reach, WeightKind};
 
-// A table of a kind, a frame, and how many words of memory are lent; the answer, and those words afterwards. Each was 1 before.
+// A table, a frame, and how many words of memory are lent; the answer, and those words afterwards. Each was 1 before.
 #[derive(Clone, Copy)]
 struct Case {
-    kind: Kind,
     table: &'static [u32],
     frame: &'static [u32],
     room: usize,
@@ -17,65 +16,47 @@ struct Case {
     memory: &'static [u32],
 }
 
-macro_rules! forwarded {
-    ($kind:ty, $table:expr, $frame:expr, $memory:expr) => {
-        match check_table::<$kind>($table) {
-            Ok(checked) => match checked.forward($frame, $memory) {
-                Ok(count) => Ok(count),
-                Err(fault) => Err(fault.shown()),
-            },
-            Err(fault) => Err(fault.shown()),
-        }
-    };
+// Whether a case comes out so through a table of the kind K.
+fn holds<K: WeightKind>(heap: Global, case: &Case) -> Result<bool, AllocError> {
+    let mut memory = vec![in heap; 1u32; case.room]?;
+    let answer = forwarded::<K>(case.table, case.frame, &mut memory);
+    Ok(answer == case.answer && memory.as_slice() == case.memory)
 }
 
-fn answer(kind: Kind, table: &[u32], frame: &[u32], memory: &mut [u32]) -> Result<usize, Shown> {
-    match kind {
-        Kind::Reach => forwarded!(Reach, table, frame, memory),
-        Kind::Cost => forwarded!(Cost, table, frame, memory),
-        Kind::Ports => forwarded!(Ports, table, frame, memory),
-    }
-}
-
-// Frames at port 1 go to ports 3 and 2, and once more to 3, unordered; all others nowhere.
-const TABLE: &[u32] = &[
-    0xA100_0003,
-    0xB100_0001,
-    0xC000_0001,
-    0xD100_0003,
-    0xC000_0001,
-    0xD100_0002,
-    0xC000_0001,
-    0xD100_0003,
-    0xA000_0000,
-    0xE000_0002,
+// Frames at ports 1 and 7.
+const AT_1: &[u32] = &[
+    0x9000_0001,
+    0x9100_0001,
+    0x9200_000A,
+    0x9300_0800,
+    0x9400_0000,
+    0x9500_0000,
+    0x9600_0000,
+    0x9700_0000,
 ];
 
-// Every frame goes to port 1 twice.
-const JOINED: &[u32] = &[
-    0xA000_0002,
-    0xC000_0005,
-    0xD100_0001,
-    0xC000_0002,
-    0xD100_0001,
-    0xE000_0001,
+const AT_7: &[u32] = &[
+    0x9000_0001,
+    0x9100_0007,
+    0x9200_000A,
+    0x9300_0800,
+    0x9400_0000,
+    0x9500_0000,
+    0x9600_0000,
+    0x9700_0000,
 ];
 
-const CASES: [Case; 11] = [
+const NO_ROOM: Shown = Shown {
+    number: 13,
+    layer: 6,
+    place: 0,
+};
+
+const REACH: [Case; 9] = [
     // Each frame once, ascending, and the words after the answer stay.
     Case {
-        kind: Kind::Reach,
         table: TABLE,
-        frame: &[
-            0x9000_0001,
-            0x9100_0001,
-            0x9200_000A,
-            0x9300_0800,
-            0x9400_0000,
-            0x9500_0000,
-            0x9600_0000,
-            0x9700_0000,
-        ],
+        frame: AT_1,
         room: 20,
         answer: Ok(18),
         memory: &[
@@ -103,7 +84,6 @@ const CASES: [Case; 11] = [
     },
     // Nothing is emitted.
     Case {
-        kind: Kind::Reach,
         table: TABLE,
         frame: &[
             0x9000_0001,
@@ -121,143 +101,40 @@ const CASES: [Case; 11] = [
     },
     // No memory.
     Case {
-        kind: Kind::Reach,
         table: TABLE,
-        frame: &[
-            0x9000_0001,
-            0x9100_0001,
-            0x9200_000A,
-            0x9300_0800,
-            0x9400_0000,
-            0x9500_0000,
-            0x9600_0000,
-            0x9700_0000,
-        ],
+        frame: AT_1,
         room: 0,
-        answer: Err(Shown {
-            number: 13,
-            layer: 6,
-            place: 0,
-        }),
+        answer: Err(NO_ROOM),
         memory: &[],
     },
     // Memory for less than a frame.
     Case {
-        kind: Kind::Reach,
         table: TABLE,
-        frame: &[
-            0x9000_0001,
-            0x9100_0001,
-            0x9200_000A,
-            0x9300_0800,
-            0x9400_0000,
-            0x9500_0000,
-            0x9600_0000,
-            0x9700_0000,
-        ],
+        frame: AT_1,
         room: 8,
-        answer: Err(Shown {
-            number: 13,
-            layer: 6,
-            place: 0,
-        }),
-        memory: &[
-            0x0000_0000,
-            0x0000_0000,
-            0x0000_0000,
-            0x0000_0000,
-            0x0000_0000,
-            0x0000_0000,
-            0x0000_0000,
-            0x0000_0000,
-        ],
+        answer: Err(NO_ROOM),
+        memory: &[0; 8],
     },
     // Memory for one of two frames.
     Case {
-        kind: Kind::Reach,
         table: TABLE,
-        frame: &[
-            0x9000_0001,
-            0x9100_0001,
-            0x9200_000A,
-            0x9300_0800,
-            0x9400_0000,
-            0x9500_0000,
-            0x9600_0000,
-            0x9700_0000,
-        ],
+        frame: AT_1,
         room: 9,
-        answer: Err(Shown {
-            number: 13,
-            layer: 6,
-            place: 0,
-        }),
-        memory: &[
-            0x0000_0000,
-            0x0000_0000,
-            0x0000_0000,
-            0x0000_0000,
-            0x0000_0000,
-            0x0000_0000,
-            0x0000_0000,
-            0x0000_0000,
-            0x0000_0000,
-        ],
+        answer: Err(NO_ROOM),
+        memory: &[0; 9],
     },
     // Memory of one word too few.
     Case {
-        kind: Kind::Reach,
         table: TABLE,
-        frame: &[
-            0x9000_0001,
-            0x9100_0001,
-            0x9200_000A,
-            0x9300_0800,
-            0x9400_0000,
-            0x9500_0000,
-            0x9600_0000,
-            0x9700_0000,
-        ],
+        frame: AT_1,
         room: 17,
-        answer: Err(Shown {
-            number: 13,
-            layer: 6,
-            place: 0,
-        }),
-        memory: &[
-            0x0000_0000,
-            0x0000_0000,
-            0x0000_0000,
-            0x0000_0000,
-            0x0000_0000,
-            0x0000_0000,
-            0x0000_0000,
-            0x0000_0000,
-            0x0000_0000,
-            0x0000_0000,
-            0x0000_0000,
-            0x0000_0000,
-            0x0000_0000,
-            0x0000_0000,
-            0x0000_0000,
-            0x0000_0000,
-            0x0000_0000,
-        ],
+        answer: Err(NO_ROOM),
+        memory: &[0; 17],
     },
     // Memory that just fits.
     Case {
-        kind: Kind::Reach,
         table: TABLE,
-        frame: &[
-            0x9000_0001,
-            0x9100_0001,
-            0x9200_000A,
-            0x9300_0800,
-            0x9400_0000,
-            0x9500_0000,
-            0x9600_0000,
-            0x9700_0000,
-        ],
+        frame: AT_1,
         room: 18,
         answer: Ok(18),
         memory: &[
@@ -283,7 +160,6 @@ const CASES: [Case; 11] = [
     },
     // A frame of one word comes before want of memory.
     Case {
-        kind: Kind::Reach,
         table: TABLE,
         frame: &[0x9000_0001],
         room: 0,
@@ -296,7 +172,6 @@ const CASES: [Case; 11] = [
     },
     // So does a frame with a wrong word.
     Case {
-        kind: Kind::Reach,
         table: TABLE,
         frame: &[
             0x9000_0001,
@@ -316,20 +191,13 @@ const CASES: [Case; 11] = [
         }),
         memory: &[],
     },
+];
+
+const COST: [Case; 1] = [
     // Weights of equal frames are joined: the smaller cost.
     Case {
-        kind: Kind::Cost,
         table: JOINED,
-        frame: &[
-            0x9000_0001,
-            0x9100_0007,
-            0x9200_000A,
-            0x9300_0800,
-            0x9400_0000,
-            0x9500_0000,
-            0x9600_0000,
-            0x9700_0000,
-        ],
+        frame: AT_7,
         room: 9,
         answer: Ok(9),
         memory: &[
@@ -344,20 +212,13 @@ const CASES: [Case; 11] = [
             0x9700_0000,
         ],
     },
+];
+
+const PORTS: [Case; 1] = [
     // And the union of ports.
     Case {
-        kind: Kind::Ports,
         table: JOINED,
-        frame: &[
-            0x9000_0001,
-            0x9100_0007,
-            0x9200_000A,
-            0x9300_0800,
-            0x9400_0000,
-            0x9500_0000,
-            0x9600_0000,
-            0x9700_0000,
-        ],
+        frame: AT_7,
         room: 9,
         answer: Ok(9),
         memory: &[
@@ -376,13 +237,15 @@ const CASES: [Case; 11] = [
 
 #[test]
 fn memory_afterwards(rt: HostRuntime) -> Result<(), Fail> {
-    for case in &CASES {
-        let mut memory = vec![in rt.alloc(); 1u32; case.room]?;
-        assert_eq!(rt;
-            answer(case.kind, case.table, case.frame, &mut memory),
-            case.answer
-        );
-        assert!(rt; memory.as_slice() == case.memory);
+    let heap = rt.alloc();
+    for case in &REACH {
+        assert!(rt; holds::<Reach>(heap, case)?);
+    }
+    for case in &COST {
+        assert!(rt; holds::<Cost>(heap, case)?);
+    }
+    for case in &PORTS {
+        assert!(rt; holds::<Ports>(heap, case)?);
     }
     Ok(())
 }

@@ -1,18 +1,17 @@
 -- Words have one verdict only.
-use Rattle.std.proofs.Common.{◌≡◌, ℕ, ◌+◌, ◌<◌, ◌≤◌, ◌⊎◌, List, [], ◌∷◌, length, get_or, take, sym, refl, ap, ◌∙◌, subst, inl, inr, arith}
+use Rattle.std.proofs.Common.{◌≡◌, ℕ, ◌+◌, ◌<◌, ◌≤◌, ◌⊎◌, List, [], ◌∷◌, length, take, sym, refl, ap, ◌∙◌, inl, inr, arith}
 use mathlib.Core.Logic.{∥∥₁_elim}
 use mathlib.Core.HLevel.{⊥_prop}
 use Rattle.std.proofs.lemmas.List.{append-nil, take_all}
 use Rattle.std.proofs.lemmas.Bool.{cases_lt}
 use Rattle.format.specs.Limits.{words_limit}
 use Rattle.format.specs.Policy.{Policy}
-use Rattle.format.specs.PolicyWords.{bits_of}
 use Rattle.format.specs.declared.settings.PolicyWord.{PolicyWord}
 use Rattle.faults.specs.declared.layers.CheckFault.{CheckFault}
 use Rattle.faults.specs.declared.layers.CheckFault.TheVariants.{LongPolicy, BadWord, BadOperands, NoPredicate, TooMany}
-use Rattle.checking.specs.Waiting.{Waits, Viable, operands}
-use Rattle.checking.specs.Checking.{Accepted, Fine, Stuck, NoWord, Overfull, Refused, Determined}
+use Rattle.checking.specs.Checking.{Accepted, Fine, Stuck, Overfull, Refused, Determined}
 use Rattle.checking.proofs.Operands.{waits_unique, viable_waits, waits_viable, viable_shorter, policy_unique, waits_alone}
+use Rattle.checking.proofs.Growth.{same_operands}
 
 -- where a fault stands
 abbrev place : CheckFault → ℕ
@@ -50,64 +49,47 @@ one_place ws f g r q s =
     omega arith
 
 -- two faults of different kinds exclude each other at one place
-word_operands : (ws : List ℕ) (i j : ℕ) → i ≡ j → Refused ws (BadWord i) → Refused ws (BadOperands j) → ⊥
-word_operands ws i j e r (inl q) =
-    let P : ℕ → Type 0 = λ n. NoWord (get_or ws n 0) in subst P e r.2 q.operator q.legal q.word
-word_operands ws i j e r (inr q) = omega (arith, r.1.inside, q.end)
+word_operands : (ws : List ℕ) (i : ℕ) → Refused ws (BadWord i) → Refused ws (BadOperands i) → ⊥
+word_operands ws i r (inl q) = r.2 q.operator q.legal q.word
+word_operands ws i r (inr q) = omega (arith, r.1.inside, q.end)
 
-word_negation : (ws : List ℕ) (i j : ℕ) → i ≡ j → Refused ws (BadWord i) → Refused ws (NoPredicate j) → ⊥
-word_negation ws i j e r q =
-    let P : ℕ → Type 0 = λ n. NoWord (get_or ws n 0) in subst P e r.2 PolicyWord.Not tt q.word
+word_negation : (ws : List ℕ) (i : ℕ) → Refused ws (BadWord i) → Refused ws (NoPredicate i) → ⊥
+word_negation ws i r q = r.2 PolicyWord.Not tt q.word
 
-stuck_many : (ws : List ℕ) (i j : ℕ) (ps : List Policy) → i ≡ j → Stuck ws i ps → Overfull ws j → ⊥
-stuck_many ws i j ps e r q =
-    let P : ℕ → Type 0 = λ n. Viable (take (n + 1) ws) in
-    r.dead (subst P (sym e) (waits_viable (take (j + 1) ws) q.ps q.waits))
+stuck_many : (ws : List ℕ) (i : ℕ) (ps : List Policy) → Stuck ws i ps → Overfull ws i → ⊥
+stuck_many ws i ps r q = r.dead (waits_viable (take (i + 1) ws) q.ps q.waits)
 
-operands_many : (ws : List ℕ) (i j : ℕ) → i ≡ j → Refused ws (BadOperands i) → Refused ws (TooMany j) → ⊥
-operands_many ws i j e (inl r) q = stuck_many ws i j r.ps e r.stuck q
-operands_many ws i j e (inr r) q = omega (arith, q.inside, r.end)
+operands_many : (ws : List ℕ) (i : ℕ) → Refused ws (BadOperands i) → Refused ws (TooMany i) → ⊥
+operands_many ws i (inl r) q = stuck_many ws i r.ps r.stuck q
+operands_many ws i (inr r) q = omega (arith, q.inside, r.end)
 
-negation_takes_one : (w : PolicyWord) → bits_of w ≡ bits_of PolicyWord.Not → operands w ≤ 1
-negation_takes_one PolicyWord.Drop e = omega arith
-negation_takes_one PolicyWord.Pass e = omega arith
-negation_takes_one (PolicyWord.Test s) e = omega arith
-negation_takes_one (PolicyWord.Set s) e = omega arith
-negation_takes_one (PolicyWord.Cost a) e = omega arith
-negation_takes_one PolicyWord.Not e = omega arith
-negation_takes_one PolicyWord.Union e = absurd (omega arith)
-negation_takes_one PolicyWord.Sequence e = absurd (omega arith)
-negation_takes_one PolicyWord.Star e = omega arith
-
-operands_negation : (ws : List ℕ) (i j : ℕ) → i ≡ j → Refused ws (BadOperands i) → Refused ws (NoPredicate j) → ⊥
-operands_negation ws i j e (inl r) q =
-    let P : ℕ → Type 0 = λ n. Waits (take n ws) r.ps in
-    let same = waits_unique (take j ws) r.ps (q.p ∷ q.ps) (subst P e r.stuck.waits) q.stuck.waits in
-    let word = r.word ∙ ap (λ (n : ℕ). get_or ws n 0) e ∙ sym q.word in
-    omega (arith, ap length same, negation_takes_one r.operator word, r.few)
-operands_negation ws i j e (inr r) q = omega (arith, q.stuck.inside, r.end)
+operands_negation : (ws : List ℕ) (i : ℕ) → Refused ws (BadOperands i) → Refused ws (NoPredicate i) → ⊥
+operands_negation ws i (inl r) q =
+    let same = waits_unique (take i ws) r.ps (q.p ∷ q.ps) r.stuck.waits q.stuck.waits in
+    omega (arith, ap length same, same_operands r.operator PolicyWord.Not (r.word ∙ sym q.word), r.few)
+operands_negation ws i (inr r) q = omega (arith, q.stuck.inside, r.end)
 
 one_short : (ws : List ℕ) (f g : CheckFault) → Refused ws f → Refused ws g → length ws ≤ words_limit → place f ≡ place g → f ≡ g
 one_short ws LongPolicy g r q s e = absurd (omega arith)
 one_short ws (BadWord i) LongPolicy r q s e = absurd (omega arith)
 one_short ws (BadWord i) (BadWord j) r q s e = ap BadWord e
-one_short ws (BadWord i) (BadOperands j) r q s e = absurd (word_operands ws i j e r q)
-one_short ws (BadWord i) (NoPredicate j) r q s e = absurd (word_negation ws i j e r q)
-one_short ws (BadWord i) (TooMany j) r q s e = absurd (stuck_many ws i j r.0 e r.1 q)
+one_short ws (BadWord i) (BadOperands j) r q s e = absurd (word_operands ws i r (rw e q))
+one_short ws (BadWord i) (NoPredicate j) r q s e = absurd (word_negation ws i r (rw e q))
+one_short ws (BadWord i) (TooMany j) r q s e = absurd (stuck_many ws i r.0 r.1 (rw e q))
 one_short ws (BadOperands i) LongPolicy r q s e = absurd (omega arith)
-one_short ws (BadOperands i) (BadWord j) r q s e = absurd (word_operands ws j i (sym e) q r)
+one_short ws (BadOperands i) (BadWord j) r q s e = absurd (word_operands ws i (rw e q) r)
 one_short ws (BadOperands i) (BadOperands j) r q s e = ap BadOperands e
-one_short ws (BadOperands i) (NoPredicate j) r q s e = absurd (operands_negation ws i j e r q)
-one_short ws (BadOperands i) (TooMany j) r q s e = absurd (operands_many ws i j e r q)
+one_short ws (BadOperands i) (NoPredicate j) r q s e = absurd (operands_negation ws i r (rw e q))
+one_short ws (BadOperands i) (TooMany j) r q s e = absurd (operands_many ws i r (rw e q))
 one_short ws (NoPredicate i) LongPolicy r q s e = absurd (omega arith)
-one_short ws (NoPredicate i) (BadWord j) r q s e = absurd (word_negation ws j i (sym e) q r)
-one_short ws (NoPredicate i) (BadOperands j) r q s e = absurd (operands_negation ws j i (sym e) q r)
+one_short ws (NoPredicate i) (BadWord j) r q s e = absurd (word_negation ws i (rw e q) r)
+one_short ws (NoPredicate i) (BadOperands j) r q s e = absurd (operands_negation ws i (rw e q) r)
 one_short ws (NoPredicate i) (NoPredicate j) r q s e = ap NoPredicate e
-one_short ws (NoPredicate i) (TooMany j) r q s e = absurd (stuck_many ws i j (r.p ∷ r.ps) e r.stuck q)
+one_short ws (NoPredicate i) (TooMany j) r q s e = absurd (stuck_many ws i (r.p ∷ r.ps) r.stuck (rw e q))
 one_short ws (TooMany i) LongPolicy r q s e = absurd (omega arith)
-one_short ws (TooMany i) (BadWord j) r q s e = absurd (stuck_many ws j i q.0 (sym e) q.1 r)
-one_short ws (TooMany i) (BadOperands j) r q s e = absurd (operands_many ws j i (sym e) q r)
-one_short ws (TooMany i) (NoPredicate j) r q s e = absurd (stuck_many ws j i (q.p ∷ q.ps) (sym e) q.stuck r)
+one_short ws (TooMany i) (BadWord j) r q s e = absurd (stuck_many ws i q.0 (rw e q.1) r)
+one_short ws (TooMany i) (BadOperands j) r q s e = absurd (operands_many ws i (rw e q) r)
+one_short ws (TooMany i) (NoPredicate j) r q s e = absurd (stuck_many ws i (q.p ∷ q.ps) (rw e q.stuck) r)
 one_short ws (TooMany i) (TooMany j) r q s e = ap TooMany e
 
 -- words that are too long have no other fault
@@ -147,8 +129,7 @@ accepted_only ws p (BadWord i) a r = fine_past ws (BadWord i) (length ws) r r.1.
 accepted_only ws p (BadOperands i) a (inl r) =
     fine_past ws (BadOperands i) (length ws) (inl r) r.stuck.inside (accepted_fine ws p a)
 accepted_only ws p (BadOperands i) a (inr r) =
-    let P : List ℕ → Type 0 = λ us. Waits us (p ∷ []) in
-    let same = waits_unique ws r.ps (p ∷ []) r.waits (subst P a.words (waits_alone p a.legal)) in
+    let same = waits_unique ws r.ps (p ∷ []) r.waits (rw a.words at (waits_alone p a.legal)) in
     r.many (ap length same)
 accepted_only ws p (NoPredicate i) a r = fine_past ws (NoPredicate i) (length ws) r r.stuck.inside (accepted_fine ws p a)
 accepted_only ws p (TooMany i) a r = fine_past ws (TooMany i) (length ws) r r.inside (accepted_fine ws p a)

@@ -1,7 +1,5 @@
 pub mod Operands
 pub mod Growth
-pub mod Stacks
-pub mod Marking
 pub mod Verdicts
 pub mod Determinism
 pub mod Policies

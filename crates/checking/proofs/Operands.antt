@@ -1,6 +1,6 @@
 -- The operands that wait after some words: there is at most one such list, and a word changes it in one way.
-use Rattle.std.proofs.Common.{◌≡◌, ℕ, zero, suc, ◌+◌, ◌<◌, ◌≤◌, List, [], ◌∷◌, ◌++◌, length, get_or, take, drop, sym, refl, ap, ◌∙◌, subst, ap₂, append_assoc, arith}
-use Rattle.std.proofs.lemmas.List.{append-nil, length-append, same_from_push, take-append-drop, take-take}
+use Rattle.std.proofs.Common.{◌≡◌, ℕ, zero, suc, ◌<◌, ◌≤◌, List, [], ◌∷◌, ◌++◌, length, get_or, take, drop, sym, refl, ap, ◌∙◌, ap₂, append_assoc, arith}
+use Rattle.std.proofs.lemmas.List.{append-nil, length_push, same_from_push, take-append-drop, take-take}
 use Rattle.format.specs.Words.{word, kind_of, field_of, value_of, value_end}
 use Rattle.format.specs.Policy.{Policy, postfix, Legal}
 use Rattle.format.specs.Policy.Policy.{Drop, Pass, Test, Set, Cost, Not, Union, Sequence, Star}
@@ -99,18 +99,16 @@ after_root (Star p) l ps = refl
 
 -- words end in the last word of what waits
 pub not_empty : (ws : List ℕ) (w : ℕ) → [] ≡ ws ++ (w ∷ []) → ⊥
-not_empty ws w e =
-    let m : length ws + 1 ≡ 0 = sym (ap length e ∙ length-append ws (w ∷ [])) in omega arith
+not_empty ws w e = omega (arith, ap length e, length_push ws w)
 
 pub waits_same : (n : ℕ) (ps qs : List Policy) → length (spelled ps) ≤ n → AllLegal ps → AllLegal qs → spelled ps ≡ spelled qs → ps ≡ qs
 waits_same n [] [] h l m e = refl
 waits_same n [] (q ∷ qs) h l m e = absurd (not_empty (spelled (kids q ++ qs)) (root q) (e ∙ spelled_root q qs))
 waits_same n (p ∷ ps) [] h l m e = absurd (not_empty (spelled (kids p ++ ps)) (root p) (sym e ∙ spelled_root p ps))
 waits_same zero (p ∷ ps) (q ∷ qs) h l m e =
-    let f = ap length (spelled_root p ps) ∙ length-append (spelled (kids p ++ ps)) (root p ∷ []) in
-    absurd (omega arith)
+    absurd (omega (arith, ap length (spelled_root p ps), length_push (spelled (kids p ++ ps)) (root p)))
 waits_same (suc n) (p ∷ ps) (q ∷ qs) h l m e =
-    let f = ap length (spelled_root p ps) ∙ length-append (spelled (kids p ++ ps)) (root p ∷ []) in
+    let f = ap length (spelled_root p ps) ∙ length_push (spelled (kids p ++ ps)) (root p) in
     let d = same_from_push (spelled (kids p ++ ps)) (spelled (kids q ++ qs)) (root p) (root q)
     (sym (spelled_root p ps) ∙ e ∙ spelled_root q qs) in
     let i = waits_same n (kids p ++ ps) (kids q ++ qs) (omega arith) (kids_legal p ps l) (kids_legal q qs m) d.0 in
@@ -129,18 +127,23 @@ pub policy_unique : (p q : Policy) → Legal p → Legal q → postfix p ≡ pos
 policy_unique p q l m e =
     let b = waits_unique (postfix q) (p ∷ []) (q ∷ []) (record { legal = (l, tt); words = e }) (waits_alone q m) in cc
 
-pub some_wait : (ws : List ℕ) (w : ℕ) (qs : List Policy) → Waits (ws ++ (w ∷ [])) qs → 0 < length qs
-some_wait ws w [] a = absurd (not_empty ws w a.words)
-some_wait ws w (q ∷ qs) a = omega arith
+-- a last word takes of the operands ps what its tree needs, and leaves the tree: so the operands qs wait
+pub record Grows (word : ℕ) (ps qs : List Policy) : Type 0 where
+  pub tree : Policy
+  pub rest : List Policy
+  pub legal : Legal tree
+  pub root : root tree ≡ word
+  pub took : ps ≡ kids tree ++ rest
+  pub left : qs ≡ tree ∷ rest
 
 -- before the last word other operands wait
-pub waits_before : (ws : List ℕ) (w : ℕ) (qs : List Policy) → Waits (ws ++ (w ∷ [])) qs → (ps : List Policy) × Waits ws ps × (qs ≡ after w ps)
+pub waits_before : (ws : List ℕ) (w : ℕ) (qs : List Policy) → Waits (ws ++ (w ∷ [])) qs → (ps : List Policy) × Waits ws ps × Grows w ps qs
 waits_before ws w [] a = absurd (not_empty ws w a.words)
 waits_before ws w (q ∷ qs) a =
     let d = same_from_push (spelled (kids q ++ qs)) ws (root q) w (sym (spelled_root q qs) ∙ a.words) in (
       kids q ++ qs,
       record { legal = kids_legal q qs a.legal; words = d.0 },
-      sym (after_root q a.legal.0 qs) ∙ ap (λ (b : ℕ). after b (kids q ++ qs)) d.1,
+      record { tree = q; rest = qs; legal = a.legal.0; root = d.1; took = refl; left = refl },
     )
 
 -- so operands wait after any first words of such words
@@ -193,6 +196,5 @@ viable_front ws rest v =
 
 pub viable_shorter : (ws : List ℕ) (i j : ℕ) → i ≤ j → Viable (take j ws) → Viable (take i ws)
 viable_shorter ws i j h v =
-    let P : List ℕ → Type 0 = Viable in
-    viable_front (take i ws) (drop i (take j ws))
-    (subst P (sym (ap (λ (l : List ℕ). l ++ drop i (take j ws)) (sym (take-take i j ws h)) ∙ take-append-drop i (take j ws))) v)
+    let parts = take-append-drop i (take j ws) in
+    viable_front (take i ws) (drop i (take j ws)) (rw (← take-take i j ws h, parts) v)

@@ -1,5 +1,5 @@
 -- What the checker keeps of the waiting operands: whether each is a predicate.
-use Rattle.std.specs.Prelude.{◌≡◌, ℕ, ◌<◌, ◌≤◌, Bool, true, false, cond, List, ◌∷◌, reverse, length, take}
+use Rattle.std.specs.Prelude.{◌≡◌, ℕ, ◌<◌, ◌≤◌, Bool, true, false, cond, List, ◌∷◌, reverse, length}
 use Rattle.format.specs.Limits.{waiting_limit}
 use Rattle.format.specs.declared.settings.PolicyWord.{PolicyWord}
 use Rattle.faults.specs.declared.layers.CheckFault.{CheckFault}
@@ -9,7 +9,7 @@ use Rattle.checking.specs.Waiting.{operands}
 
 -- for each waiting operand whether it is a predicate, the last one first
 abbrev pub flags : Waiting → List Bool
-flags s = reverse (take s.count s.predicates)
+flags s = reverse s.predicates.items
 
 -- the word w makes of the flags bs the flags cs
 abbrev pub Marks : PolicyWord → List Bool → List Bool → Type 0

@@ -4,7 +4,7 @@
 use format::TEXT_LIMIT;
 use reports::report;
 use std::io;
-use std::io::{Read, Write};
+use std::io::Read;
 
 fn main(rt: HostRuntime) -> io::Result<()> {
     let mut text = Vec::new(rt.alloc());
@@ -13,5 +13,5 @@ fn main(rt: HostRuntime) -> io::Result<()> {
         .take(TEXT_LIMIT as u64 + 1)
         .read_to_end(&mut text)?;
     let record = report(rt.alloc(), &text)?;
-    rt.stdout().write_all(&record)
+    rt.print(record)
 }

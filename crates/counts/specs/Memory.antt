@@ -1,5 +1,7 @@
 -- The sizes that the memories of a bench may have.
 use Rattle.std.specs.Prelude.{ℕ, ◌≤◌}
+use Rattle.faults.specs.declared.layers.Memory.{Memory}
+use Rattle.faults.specs.declared.layers.Memory.TheVariants.{Actions, Cells, Nodes, Table}
 use Rattle.faults.specs.declared.layers.StoreFault.{StoreFault}
 use Rattle.faults.specs.declared.layers.StoreFault.TheVariants.{Full, NotHeld, BadMemory}
 use Rattle.counts.specs.declared.memory.Sizes.{Sizes}
@@ -39,15 +41,15 @@ pub record AllFit (s : Sizes) : Type 0 where
   pub nodes_fit : NodesFit s
   pub table_fits : TableFits s
 
--- the first memory whose size does not fit: 1 actions, 2 cells, 3 nodes, 4 table words
-pub data FirstWrong (s : Sizes) : ℕ → Type 0 where
-  actions_wrong : (ActionsFit s → ⊥) → FirstWrong s 1
-  cells_wrong : ActionsFit s → (CellsFit s → ⊥) → FirstWrong s 2
-  nodes_wrong : ActionsFit s → CellsFit s → (NodesFit s → ⊥) → FirstWrong s 3
-  table_wrong : ActionsFit s → CellsFit s → NodesFit s → (TableFits s → ⊥) → FirstWrong s 4
+-- the first memory whose size does not fit
+pub data FirstWrong (s : Sizes) : Memory → Type 0 where
+  actions_wrong : (ActionsFit s → ⊥) → FirstWrong s Actions
+  cells_wrong : ActionsFit s → (CellsFit s → ⊥) → FirstWrong s Cells
+  nodes_wrong : ActionsFit s → CellsFit s → (NodesFit s → ⊥) → FirstWrong s Nodes
+  table_wrong : ActionsFit s → CellsFit s → NodesFit s → (TableFits s → ⊥) → FirstWrong s Table
 
 -- why the sizes are refused
 abbrev pub Unfit : Sizes → StoreFault → Type 0
 Unfit s Full = ⊥
 Unfit s (NotHeld p) = ⊥
-Unfit s (BadMemory p) = FirstWrong s p
+Unfit s (BadMemory m) = FirstWrong s m

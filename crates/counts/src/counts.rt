@@ -1,7 +1,8 @@
 // How many records the three stores hold, and the guard that puts the counts back.
-ghost use Rattle.std.specs.Prelude.{◌≡◌, true, false, if◌then◌else◌};
+ghost use Rattle.std.specs.Prelude.{◌≡◌, Some, None};
+ghost use Rattle.std.specs.Option.{unwrap_or};
 
-#[derive(Clone, Copy)]
+#[derive(Clone, Copy, Debug, Default, PartialEq, Eq)]
 pub struct Counts {
     pub actions: u32,
     pub cells: u32,
@@ -9,36 +10,29 @@ pub struct Counts {
 }
 
 impl Counts {
-    // Empty stores.
+    // Empty stores: the default, with what it promises here.
     pub fn none() -> Counts
         ensures { (result.actions ≡ 0) × (result.cells ≡ 0) × (result.nodes ≡ 0) }
     {
-        Counts {
-            actions: 0,
-            cells: 0,
-            nodes: 0,
-        }
+        Counts::default()
     }
 }
 
 // At its end the counts are those that it found, unless what was built is kept.
 pub struct Guard<'a> {
     pub counts: &'a mut Counts,
-    saved: Counts,
-    kept: bool,
+    // The counts that it found, none once what was built is kept.
+    saved: Option<Counts>,
 }
 
+// By hand, by a rule of the project: this is what puts the counts back, on every way out.
 impl Drop for Guard<'_> {
     fn drop(self)
-        ensures { self.exit.0.now ≡ (if self.entry.kept then self.entry.counts.now else self.entry.saved) }
+        ensures { self.exit.0.now ≡ unwrap_or self.entry.saved self.entry.counts.now }
     {
-        let Guard {
-            counts,
-            saved,
-            kept,
-        } = self;
-        if !kept {
-            *counts = saved;
+        let Guard { counts, saved } = self;
+        if let Some(found) = saved {
+            *counts = found;
         }
     }
 }
@@ -46,25 +40,19 @@ impl Drop for Guard<'_> {
 impl<'a> Guard<'a> {
     pub fn over(counts: &'a mut Counts) -> Guard<'a>
         ensures counts { result.counts.now ≡ counts.old }
-        ensures saved { result.saved ≡ counts.old }
-        ensures kept { result.kept ≡ false }
+        ensures saved { result.saved ≡ Some counts.old }
         ensures lender { result.counts.ghost_name ≡ counts.entry.ghost_name }
     {
-        let saved = *counts;
-        Guard {
-            counts,
-            saved,
-            kept: false,
-        }
+        let saved = Some(*counts);
+        Guard { counts, saved }
     }
 
     // What was built stays.
     pub fn keep(&mut self)
-        ensures kept { self.new.kept ≡ true }
+        ensures kept { self.new.saved ≡ None }
         ensures counts { self.new.counts.now ≡ self.old.counts.now }
-        ensures saved { self.new.saved ≡ self.old.saved }
         ensures lender { self.new.counts.ghost_name ≡ self.old.counts.ghost_name }
     {
-        self.kept = true;
+        self.saved = None;
     }
 }

@@ -1,8 +1,9 @@
 // The sizes of the memories that a bench is lent.
-ghost use Rattle.std.specs.Prelude.{Decides, MatchResult};
+ghost use Rattle.std.specs.Prelude.{◌≡◌, MatchResult};
+ghost use Rattle.faults.specs.declared.layers.StoreFault.TheVariants.{BadMemory};
 ghost use Rattle.counts.specs.Memory.{Between, AllFit, Unfit};
 
-use faults::StoreFault;
+use faults::{Memory, StoreFault};
 
 // At most so many actions, cells, nodes and table words.
 pub const ACTIONS_LIMIT: usize = 4_096;
@@ -22,10 +23,15 @@ pub struct Sizes {
     pub table_words: usize,
 }
 
-fn between(least: usize, most: usize, size: usize) -> bool
-    ensures { Decides result (Between least most size) }
+// Whether a memory has a size from the least to the most.
+fn judge(memory: Memory, least: usize, most: usize, size: usize) -> Result<(), StoreFault>
+    ensures { MatchResult result (λ _. Between least most size) (λ f. (f ≡ BadMemory memory) × (Between least most size → ⊥)) }
 {
-    least <= size && size <= most
+    if (least..=most).contains(&size) {
+        Ok(())
+    } else {
+        Err(StoreFault::BadMemory(memory))
+    }
 }
 
 impl Sizes {
@@ -33,18 +39,10 @@ impl Sizes {
     pub fn judge(self) -> Result<(), StoreFault>
         ensures { MatchResult result (λ _. AllFit self) (λ f. Unfit self f) }
     {
-        if !between(1, ACTIONS_LIMIT, self.actions) {
-            return Err(StoreFault::BadMemory(1));
-        }
-        if !between(1, CELLS_LIMIT, self.cells) {
-            return Err(StoreFault::BadMemory(2));
-        }
-        if !between(1, NODES_LIMIT, self.nodes) {
-            return Err(StoreFault::BadMemory(3));
-        }
-        if !between(2, TABLE_LIMIT, self.table_words) {
-            return Err(StoreFault::BadMemory(4));
-        }
+        judge(Memory::Actions, 1, ACTIONS_LIMIT, self.actions)?;
+        judge(Memory::Cells, 1, CELLS_LIMIT, self.cells)?;
+        judge(Memory::Nodes, 1, NODES_LIMIT, self.nodes)?;
+        judge(Memory::Table, 2, TABLE_LIMIT, self.table_words)?;
         Ok(())
     }
 }

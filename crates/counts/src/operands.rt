@@ -13,7 +13,7 @@ impl Counts {
         ensures { MatchResult result (λ d. (word_of d ≡ bits) × Held self.cells self.nodes d) (λ f. (f ≡ NotHeld place) × ((d : Diagram) → word_of d ≡ bits → Held self.cells self.nodes d → ⊥)) }
     {
         let fault = StoreFault::NotHeld(place);
-        let diagram = Diagram::from_word(bits).ok_or(fault)?;
+        let diagram = Diagram::try_from(bits).map_err(|_| fault)?;
         let held = match diagram {
             Diagram::Leaf(first) => first.number <= self.cells,
             Diagram::Branch(node) => 0 < node.number && node.number <= self.nodes,

@@ -11,20 +11,13 @@ use format::{Amount, Setting};
 use records::{Cell, Diagram, Node};
 use weights::WeightKind;
 
-// The kind's weight one.
-fn one<K: WeightKind>() -> Amount
-    ensures { result.number ≡ K.WeightKind.ops.one }
-{
-    Amount { number: K::one() }
-}
-
 // The cell of an action of weight one, with nothing after it.
 fn only_cell<K: WeightKind>(action: Amount) -> Cell
     ensures { OnlyCell action K.WeightKind.ops.one result }
 {
     Cell {
         action,
-        weight: one::<K>(),
+        weight: Amount { number: K::one() },
         rest: Amount { number: 0 },
     }
 }

@@ -1,4 +1,4 @@
-// The three stores together, and the first construction over them.
+// The three stores together.
 use actions::Action;
 use records::{Cell, Node};
 use stores::Store;

@@ -11,6 +11,8 @@ use Rattle.faults.specs.declared.layers.CheckFault.{CheckFault}
 use Rattle.faults.specs.declared.layers.CheckFault.TheVariants.{LongPolicy, BadWord, BadOperands, NoPredicate, TooMany}
 use Rattle.faults.specs.declared.layers.CompileFault.{CompileFault}
 use Rattle.faults.specs.declared.layers.CompileFault.TheVariants.{Text, Check}
+use Rattle.faults.specs.declared.layers.Memory.{Memory}
+use Rattle.faults.specs.declared.layers.Memory.TheVariants.{Actions, Cells, Nodes, Table}
 use Rattle.faults.specs.declared.layers.StoreFault.{StoreFault}
 use Rattle.faults.specs.declared.layers.StoreFault.TheVariants.{Full, NotHeld, BadMemory}
 use Rattle.faults.specs.declared.layers.TableFault.{TableFault}
@@ -51,7 +53,14 @@ frame_shown frame.Length = shown 12 6 fields
 frame_shown (frame.BadWord p) = shown 12 6 p
 frame_shown frame.NoRoom = shown 13 6 0
 
+-- the place at which a memory of the wrong size is shown
+abbrev pub memory_number : Memory → ℕ
+memory_number Actions = 1
+memory_number Cells = 2
+memory_number Nodes = 3
+memory_number Table = 4
+
 abbrev pub store_shown : StoreFault → Shown
 store_shown Full = shown 9 4 0
 store_shown (NotHeld p) = shown 10 4 p
-store_shown (BadMemory p) = shown 14 4 p
+store_shown (BadMemory m) = shown 14 4 (memory_number m)

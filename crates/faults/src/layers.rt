@@ -4,7 +4,7 @@ ghost use Rattle.faults.specs.declared.layers.GrammarFault.TheVariants.{Token};
 ghost use Rattle.faults.specs.declared.layers.CompileFault.TheVariants.{Text, Check};
 
 // Why a text has no token at a byte. The number is the place of the token's first byte.
-#[derive(Clone, Copy)]
+#[derive(Clone, Copy, Debug, PartialEq, Eq, Hash)]
 pub enum TokenFault {
     // No token starts here, or the word is unknown.
     NoToken(usize),
@@ -13,7 +13,7 @@ pub enum TokenFault {
 }
 
 // Why a text is no policy. The number is the place of a token's first byte, or the text's length at its end.
-#[derive(Clone, Copy)]
+#[derive(Clone, Copy, Debug, PartialEq, Eq, Hash)]
 pub enum GrammarFault {
     Token(TokenFault),
     // No policy text begins so.
@@ -27,7 +27,7 @@ pub enum GrammarFault {
 }
 
 // Why words are no legal policy. The number is the place of a word, or their count at their end.
-#[derive(Clone, Copy)]
+#[derive(Clone, Copy, Debug, PartialEq, Eq, Hash)]
 pub enum CheckFault {
     // The policy has too many words.
     LongPolicy,
@@ -41,32 +41,41 @@ pub enum CheckFault {
     TooMany(usize),
 }
 
+// The memories that a bench is lent, by their numbers.
+#[derive(Clone, Copy, Debug, PartialEq, Eq, PartialOrd, Ord, Hash)]
+pub enum Memory {
+    Actions = 1,
+    Cells,
+    Nodes,
+    Table,
+}
+
 // Why the stores refuse.
-#[derive(Clone, Copy)]
+#[derive(Clone, Copy, Debug, PartialEq, Eq, Hash)]
 pub enum StoreFault {
     // The records held and requested pass a store's size.
     Full,
     // The operand at this place is no word of a diagram in the stores.
     NotHeld(usize),
-    // The memory of this number has a size outside its range.
-    BadMemory(usize),
+    // This memory has a size outside its range.
+    BadMemory(Memory),
 }
 
 // Why a policy text cannot be used: the fault of whichever layer refused it.
-#[derive(Clone, Copy)]
+#[derive(Clone, Copy, Debug, PartialEq, Eq, Hash)]
 pub enum CompileFault {
     Text(GrammarFault),
     Check(CheckFault),
 }
 
 // Why words are no legal table: no legal table begins with the words up to this one, or they end here too early.
-#[derive(Clone, Copy)]
+#[derive(Clone, Copy, Debug, PartialEq, Eq, Hash)]
 pub enum TableFault {
     Illegal(usize),
 }
 
 // Why a frame cannot be forwarded.
-#[derive(Clone, Copy)]
+#[derive(Clone, Copy, Debug, PartialEq, Eq, Hash)]
 pub enum FrameFault {
     // The frame has not one word for each field.
     Length,
@@ -76,6 +85,7 @@ pub enum FrameFault {
     NoRoom,
 }
 
+// By a rule of the project a fault goes up by `From` and `?`, so each step has its own impl.
 impl From<TokenFault> for GrammarFault {
     ghost from_gives = { λ e r. r ≡ Token e };
 

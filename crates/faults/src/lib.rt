@@ -1,21 +1,25 @@
 // Every refusal by its layer, and what a person is shown of it.
 #![tactic(auto)]
 
-ghost use Rattle.std.specs.Prelude.{◌≡◌, IfOk};
+ghost use Rattle.std.specs.Prelude.{◌≡◌, Some};
 ghost use Rattle.faults.specs.Lines.{refused_line};
 ghost use Rattle.faults.specs.Shows.{shown, token_shown, grammar_shown, check_shown, compile_shown, store_shown, table_shown, frame_shown};
 
 mod layers;
+mod refusals;
 
 use format::{FIELDS, TEXT_LIMIT, WORDS_LIMIT};
 pub use layers::{
-    CheckFault, CompileFault, FrameFault, GrammarFault, StoreFault, TableFault, TokenFault,
+    CheckFault, CompileFault, FrameFault, GrammarFault, Memory, StoreFault, TableFault, TokenFault,
 };
-use numerals::push_number;
-use std::alloc::{AllocError, Global};
+use numerals::Decimal;
+pub use refusals::zeros_if_refused;
+use std::error::Error;
+use std::fmt;
 
 // What a person is shown of a refusal: its number, the layer that refused, and the place.
-#[derive(Clone, Copy, Debug, PartialEq)]
+// Numbers and no enums, since a person looks these up in the list of refusals; the code tells refusals apart by the faults.
+#[derive(Clone, Copy, Debug, PartialEq, Eq, Hash)]
 pub struct Shown {
     pub number: u32,
     pub layer: u32,
@@ -34,102 +38,105 @@ impl Shown {
     }
 }
 
-impl TokenFault {
-    pub fn shown(self) -> Shown
-        ensures { result ≡ token_shown self }
-    {
-        let layer = 1;
-        match self {
-            TokenFault::NoToken(place) => Shown::of(1, layer, place),
-            TokenFault::BigNumber(place) => Shown::of(2, layer, place),
-        }
-    }
-}
-
-impl GrammarFault {
-    pub fn shown(self) -> Shown
-        ensures { result ≡ grammar_shown self }
-    {
-        let layer = 2;
-        match self {
-            GrammarFault::Token(fault) => fault.shown(),
-            GrammarFault::Unexpected(place) => Shown::of(3, layer, place),
-            GrammarFault::TooDeep(place) => Shown::of(4, layer, place),
-            GrammarFault::NoRoom(place) => Shown::of(5, layer, place),
-            GrammarFault::LongText => Shown::of(5, layer, TEXT_LIMIT),
-        }
-    }
-}
-
-impl CheckFault {
-    pub fn shown(self) -> Shown
-        ensures { result ≡ check_shown self }
-    {
-        let layer = 3;
-        match self {
-            CheckFault::LongPolicy => Shown::of(5, layer, WORDS_LIMIT),
-            CheckFault::BadWord(place) => Shown::of(6, layer, place),
-            CheckFault::BadOperands(place) => Shown::of(7, layer, place),
-            CheckFault::NoPredicate(place) => Shown::of(8, layer, place),
-            CheckFault::TooMany(place) => Shown::of(4, layer, place),
-        }
-    }
-}
-
-impl CompileFault {
-    pub fn shown(self) -> Shown
-        ensures { result ≡ compile_shown self }
-    {
-        match self {
-            CompileFault::Text(fault) => fault.shown(),
-            CompileFault::Check(fault) => fault.shown(),
-        }
-    }
-}
-
-impl StoreFault {
-    pub fn shown(self) -> Shown
-        ensures { result ≡ store_shown self }
-    {
-        let layer = 4;
-        match self {
-            StoreFault::Full => Shown::of(9, layer, 0),
-            StoreFault::NotHeld(place) => Shown::of(10, layer, place),
-            StoreFault::BadMemory(place) => Shown::of(14, layer, place),
-        }
-    }
-}
-
-impl TableFault {
-    pub fn shown(self) -> Shown
-        ensures { result ≡ table_shown self }
-    {
-        match self {
-            TableFault::Illegal(place) => Shown::of(15, 5, place),
-        }
-    }
-}
-
-impl FrameFault {
-    pub fn shown(self) -> Shown
-        ensures { result ≡ frame_shown self }
-    {
-        let layer = 6;
-        match self {
-            FrameFault::Length => Shown::of(12, layer, FIELDS as usize),
-            FrameFault::BadWord(place) => Shown::of(12, layer, place),
-            FrameFault::NoRoom => Shown::of(13, layer, 0),
-        }
-    }
-}
-
 // The line by which a refusal is told.
-pub fn refused_line(heap: Global, shown: Shown) -> Result<Vec<u8>, AllocError>
-    ensures { IfOk result (λ v. v.items ≡ refused_line shown) }
-{
-    let mut line = Vec::new(heap);
-    push_number(&mut line, b"refused ", shown.number as u64, b" layer ")?;
-    push_number(&mut line, b"", shown.layer as u64, b" place ")?;
-    push_number(&mut line, b"", shown.place as u64, b"\n")?;
-    Ok(line)
+impl fmt::Display for Shown {
+    ghost output = { λ s. Some (refused_line s) };
+
+    fn fmt<W: fmt::Write>(&self, f: &mut fmt::Formatter<W>) -> fmt::Result {
+        let number = Decimal(self.number as u64);
+        let layer = Decimal(self.layer as u64);
+        let place = Decimal(self.place as u64);
+        writeln!(f, "refused {number} layer {layer} place {place}")
+    }
+}
+
+// An error to print is what is shown of a fault. Seven faults with a `Display` each would be no plainer: all would print this.
+impl Error for Shown {}
+
+impl From<TokenFault> for Shown {
+    ghost from_gives = { λ f s. s ≡ token_shown f };
+
+    fn from(fault: TokenFault) -> Shown {
+        let (number, place) = match fault {
+            TokenFault::NoToken(place) => (1, place),
+            TokenFault::BigNumber(place) => (2, place),
+        };
+        Shown::of(number, 1, place)
+    }
+}
+
+impl From<GrammarFault> for Shown {
+    ghost from_gives = { λ f s. s ≡ grammar_shown f };
+
+    fn from(fault: GrammarFault) -> Shown {
+        let (number, place) = match fault {
+            GrammarFault::Token(fault) => return Shown::from(fault),
+            GrammarFault::Unexpected(place) => (3, place),
+            GrammarFault::TooDeep(place) => (4, place),
+            GrammarFault::NoRoom(place) => (5, place),
+            GrammarFault::LongText => (5, TEXT_LIMIT),
+        };
+        Shown::of(number, 2, place)
+    }
+}
+
+impl From<CheckFault> for Shown {
+    ghost from_gives = { λ f s. s ≡ check_shown f };
+
+    fn from(fault: CheckFault) -> Shown {
+        let (number, place) = match fault {
+            CheckFault::LongPolicy => (5, WORDS_LIMIT),
+            CheckFault::BadWord(place) => (6, place),
+            CheckFault::BadOperands(place) => (7, place),
+            CheckFault::NoPredicate(place) => (8, place),
+            CheckFault::TooMany(place) => (4, place),
+        };
+        Shown::of(number, 3, place)
+    }
+}
+
+impl From<CompileFault> for Shown {
+    ghost from_gives = { λ f s. s ≡ compile_shown f };
+
+    fn from(fault: CompileFault) -> Shown {
+        match fault {
+            CompileFault::Text(fault) => Shown::from(fault),
+            CompileFault::Check(fault) => Shown::from(fault),
+        }
+    }
+}
+
+impl From<StoreFault> for Shown {
+    ghost from_gives = { λ f s. s ≡ store_shown f };
+
+    fn from(fault: StoreFault) -> Shown {
+        let (number, place) = match fault {
+            StoreFault::Full => (9, 0),
+            StoreFault::NotHeld(place) => (10, place),
+            StoreFault::BadMemory(memory) => (14, memory as usize),
+        };
+        Shown::of(number, 4, place)
+    }
+}
+
+impl From<TableFault> for Shown {
+    ghost from_gives = { λ f s. s ≡ table_shown f };
+
+    fn from(fault: TableFault) -> Shown {
+        let TableFault::Illegal(place) = fault;
+        Shown::of(15, 5, place)
+    }
+}
+
+impl From<FrameFault> for Shown {
+    ghost from_gives = { λ f s. s ≡ frame_shown f };
+
+    fn from(fault: FrameFault) -> Shown {
+        let (number, place) = match fault {
+            FrameFault::Length => (12, FIELDS as usize),
+            FrameFault::BadWord(place) => (12, place),
+            FrameFault::NoRoom => (13, 0),
+        };
+        Shown::of(number, 6, place)
+    }
 }

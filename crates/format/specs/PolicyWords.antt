@@ -1,7 +1,8 @@
 -- The words of a policy one by one.
-use Rattle.std.specs.Prelude.{ℕ, ◌≤◌}
+use Rattle.std.specs.Prelude.{◌≡◌, ℕ, ◌≤◌, Result, MatchResult, ◌≢◌}
 use Rattle.format.specs.Limits.{cost_limit}
 use Rattle.format.specs.Words.{word}
+use Rattle.format.specs.declared.settings.NoPolicyWord.{NoPolicyWord}
 use Rattle.format.specs.declared.settings.PolicyWord.{PolicyWord}
 use Rattle.format.specs.declared.settings.PolicyWord.TheVariants.{Drop, Pass, Test, Set, Cost, Not, Union, Sequence, Star}
 
@@ -28,3 +29,8 @@ LegalWord Not = Unit {0}
 LegalWord Union = Unit {0}
 LegalWord Sequence = Unit {0}
 LegalWord Star = Unit {0}
+
+-- the legal policy word of these bits, or an error with bits that no legal policy word has
+abbrev pub Decodes : ℕ → Result PolicyWord NoPolicyWord → Type 0
+Decodes bits r =
+    MatchResult r (λ w. LegalWord w × (bits_of w ≡ bits)) (λ e. (e.0 ≡ bits) × ((w : PolicyWord) → LegalWord w → bits_of w ≢ bits))

@@ -1,14 +1,16 @@
 // The 32-bit words of which policies, frames and tables are made, and the fields that they name.
 #![tactic(auto)]
 
-ghost use Rattle.std.specs.Prelude.{◌≡◌, ◌<◌, ◌≤◌, IfSome, IfNone, ◌≢◌};
+ghost use Rattle.std.specs.Prelude.{◌≡◌, ◌<◌, ◌≤◌, IfSome, IfNone};
 ghost use Rattle.format.specs.Fields.{fields, field_name, range, LegalValue};
 ghost use Rattle.format.specs.Words.{value_end, kind_of, field_of, value_of};
-ghost use Rattle.format.specs.PolicyWords.{bits_of, LegalWord};
+ghost use Rattle.format.specs.PolicyWords.{bits_of, Decodes};
 
+mod kinds;
 mod settings;
 
-pub use settings::{Amount, PolicyWord, Setting};
+pub use kinds::{NoPolicyKind, PolicyKind};
+pub use settings::{Amount, NoPolicyWord, PolicyWord, Setting};
 
 // How many fields a frame has.
 pub const FIELDS: u32 = 8;
@@ -31,20 +33,19 @@ pub const KIND_UNIT: u32 = 0x1000_0000;
 // A word of kind 0, field 1 and value 0.
 pub const FIELD_UNIT: u32 = VALUE_END;
 
-// A word by its parts.
-#[derive(Clone, Copy)]
+// A word by its parts. All are numbers, since any 32 bits are a word; the kinds of policies, tables and diagrams are an enum each.
+// The parts have no bounds, so there is no way back: policy words, words of a table, frames and diagrams make their own bits.
+#[derive(Clone, Copy, Debug, PartialEq, Eq, PartialOrd, Ord, Hash)]
 pub struct Word {
     pub kind: u32,
     pub field: u32,
     pub value: u32,
 }
 
-impl Word {
-    pub fn split(bits: u32) -> Word
-        ensures kind { result.kind ≡ kind_of bits }
-        ensures field { result.field ≡ field_of bits }
-        ensures value { result.value ≡ value_of bits }
-    {
+impl From<u32> for Word {
+    ghost from_gives = { λ bits w. (w.kind ≡ kind_of bits) × (w.field ≡ field_of bits) × (w.value ≡ value_of bits) };
+
+    fn from(bits: u32) -> Word {
         Word {
             kind: bits / KIND_UNIT,
             field: bits / FIELD_UNIT % 16,
@@ -60,22 +61,18 @@ fn range_of(_field: u32) -> u32
     FIELD_UNIT
 }
 
-// What a field is called in texts and records.
-pub fn field_name(field: u32) -> &'static [u8]
+// What the fields are called in texts and records, field 0 first.
+const FIELD_NAMES: [&str; 8] = ["sw", "pt", "vlan", "type", "srch", "srcl", "dsth", "dstl"];
+
+// What a field is called; a number past the last field has the last name.
+pub fn field_name(field: u32) -> &'static str
     ensures { result.now ≡ field_name field }
 {
-    match field {
-        0 => b"sw",
-        1 => b"pt",
-        2 => b"vlan",
-        3 => b"type",
-        4 => b"srch",
-        5 => b"srcl",
-        6 => b"dsth",
-        _ => b"dstl",
-    }
+    FIELD_NAMES[field.min(FIELDS - 1) as usize]
 }
 
+// Both constructors answer as std's `NonZeroU32::new` does: `TryFrom` would be no plainer, since its error could say no more
+// than `None`.
 impl Setting {
     // A field and its value, or none where there is no such field or value.
     pub fn new(field: u32, value: u32) -> Option<Setting>
@@ -103,43 +100,51 @@ impl Amount {
     }
 }
 
-impl PolicyWord {
-    // The word's 32 bits.
-    pub fn bits(self) -> u32
-        ensures { result ≡ bits_of self }
-    {
-        match self {
-            PolicyWord::Drop => 0,
-            PolicyWord::Pass => KIND_UNIT,
-            PolicyWord::Test(s) => 2 * KIND_UNIT + s.field * FIELD_UNIT + s.value,
-            PolicyWord::Set(s) => 3 * KIND_UNIT + s.field * FIELD_UNIT + s.value,
-            PolicyWord::Cost(a) => 4 * KIND_UNIT + a.number,
-            PolicyWord::Not => 5 * KIND_UNIT,
-            PolicyWord::Union => 6 * KIND_UNIT,
-            PolicyWord::Sequence => 7 * KIND_UNIT,
-            PolicyWord::Star => 8 * KIND_UNIT,
-        }
-    }
+impl From<PolicyWord> for u32 {
+    ghost from_gives = { λ word bits. bits ≡ bits_of word };
 
-    // The policy word of these bits, or none where no legal policy word has them.
-    pub fn decode(bits: u32) -> Option<PolicyWord>
-        ensures some { IfSome result (λ w. LegalWord w × (bits_of w ≡ bits)) }
-        ensures none { IfNone result ((w : PolicyWord) → LegalWord w → bits_of w ≢ bits) }
-    {
-        let word = Word::split(bits);
-        match word.kind {
-            2 => Some(PolicyWord::Test(Setting::new(word.field, word.value)?)),
-            3 => Some(PolicyWord::Set(Setting::new(word.field, word.value)?)),
-            _ if word.field != 0 => None,
-            4 if word.value <= COST_LIMIT => Some(PolicyWord::Cost(Amount::new(word.value)?)),
-            _ if word.value != 0 => None,
-            0 => Some(PolicyWord::Drop),
-            1 => Some(PolicyWord::Pass),
-            5 => Some(PolicyWord::Not),
-            6 => Some(PolicyWord::Union),
-            7 => Some(PolicyWord::Sequence),
-            8 => Some(PolicyWord::Star),
-            _ => None,
+    fn from(word: PolicyWord) -> u32 {
+        let (kind, field, value) = match word {
+            PolicyWord::Drop => (PolicyKind::Drop, 0, 0),
+            PolicyWord::Pass => (PolicyKind::Pass, 0, 0),
+            PolicyWord::Test(s) => (PolicyKind::Test, s.field, s.value),
+            PolicyWord::Set(s) => (PolicyKind::Set, s.field, s.value),
+            PolicyWord::Cost(a) => (PolicyKind::Cost, 0, a.number),
+            PolicyWord::Not => (PolicyKind::Not, 0, 0),
+            PolicyWord::Union => (PolicyKind::Union, 0, 0),
+            PolicyWord::Sequence => (PolicyKind::Sequence, 0, 0),
+            PolicyWord::Star => (PolicyKind::Star, 0, 0),
+        };
+        u32::from(kind) * KIND_UNIT + field * FIELD_UNIT + value
+    }
+}
+
+impl TryFrom<u32> for PolicyWord {
+    type Error = NoPolicyWord;
+
+    ghost try_from_gives = { Decodes };
+
+    fn try_from(bits: u32) -> Result<PolicyWord, NoPolicyWord> {
+        let Word { kind, field, value } = Word::from(bits);
+        let none = NoPolicyWord(bits);
+        let Ok(kind) = PolicyKind::try_from(kind) else {
+            return Err(none);
+        };
+        match (kind, field, value) {
+            (PolicyKind::Drop, 0, 0) => Ok(PolicyWord::Drop),
+            (PolicyKind::Pass, 0, 0) => Ok(PolicyWord::Pass),
+            (PolicyKind::Test, _, _) => Setting::new(field, value)
+                .map(PolicyWord::Test)
+                .ok_or(none),
+            (PolicyKind::Set, _, _) => Setting::new(field, value).map(PolicyWord::Set).ok_or(none),
+            (PolicyKind::Cost, 0, number) if number <= COST_LIMIT => {
+                Ok(PolicyWord::Cost(Amount { number }))
+            }
+            (PolicyKind::Not, 0, 0) => Ok(PolicyWord::Not),
+            (PolicyKind::Union, 0, 0) => Ok(PolicyWord::Union),
+            (PolicyKind::Sequence, 0, 0) => Ok(PolicyWord::Sequence),
+            (PolicyKind::Star, 0, 0) => Ok(PolicyWord::Star),
+            _ => Err(none),
         }
     }
 }

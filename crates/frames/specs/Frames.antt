@@ -1,9 +1,10 @@
 -- Frames by the values of their fields, and the words in which a frame is stored.
-use Rattle.std.specs.Prelude.{◌≡◌, ℕ, ◌+◌, ◌<◌, Bool, true, false, ◌&&◌, ◌||◌, List, [], ◌∷◌, length, ◌==◌, nat_lt, slice_index}
+use Rattle.std.specs.Prelude.{◌≡◌, ℕ, ◌+◌, ◌<◌, Bool, true, false, ◌&&◌, ◌||◌, List, [], ◌∷◌, length, Result, MatchResult, ◌==◌, nat_lt, slice_index}
 use Rattle.faults.specs.declared.layers.FrameFault.{FrameFault}
 use Rattle.faults.specs.declared.layers.FrameFault.TheVariants.{Length, BadWord, NoRoom}
 use Rattle.format.specs.Fields.{fields, LegalValue}
 use Rattle.format.specs.Words.{word, value_of}
+use Rattle.frames.specs.declared.frame.Frame.{Frame}
 
 -- the values of a frame: one for each field, field 0 first, each legal
 pub record FrameValues (s : List ℕ) : Type 0 where
@@ -35,3 +36,8 @@ abbrev pub NoFrame : FrameFault → List ℕ → Type 0
 NoFrame Length ws = length ws ≡ fields → ⊥
 NoFrame (BadWord i) ws = (length ws ≡ fields) × (i < fields) × ((f : ℕ) → f < i → FieldWord f (slice_index ws f)) × (FieldWord i (slice_index ws i) → ⊥)
 NoFrame NoRoom ws = ⊥
+
+-- the words ws read as r: a frame with these words, or why there is none; the words of a frame are read back as it
+pub record FrameRead (ws : List ℕ) (r : Result Frame FrameFault) : Type 0 where
+  pub read : MatchResult r (λ s. ws ≡ frame_words s.values) (λ e. NoFrame e ws)
+  pub back : (s : List ℕ) → FrameValues s → ws ≡ frame_words s → MatchResult r (λ t. t.values ≡ s) (λ _. ⊥)

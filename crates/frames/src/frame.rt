@@ -8,7 +8,7 @@ use format::FIELDS;
 pub const WIDTH: usize = FIELDS as usize;
 
 // The values of the fields, field 0 first, each legal.
-#[derive(Clone, Copy)]
+#[derive(Clone, Copy, PartialEq, Eq, PartialOrd, Ord, Debug)]
 pub struct Frame {
     pub values: [u32; WIDTH],
     ghost legal: { (f : ℕ) → f < fields → LegalValue f (slice_index values f) },

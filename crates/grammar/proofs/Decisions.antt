@@ -1,17 +1,25 @@
--- What is decided at a symbol.
-use Rattle.std.proofs.Common.{◌≡◌, ℕ, ◌<◌, cond, ltb, [], ◌∷◌, Some, None, sym, ap, ◌∙◌}
-use Rattle.std.proofs.lemmas.Bool.{lt-ltb, and_from}
-use Rattle.format.specs.Fields.{fields, LegalValue}
-use Rattle.format.specs.Policy.{Policy}
-use Rattle.format.specs.Words.{word, value_end}
+-- What is decided at a number.
+use Rattle.std.proofs.Common.{◌≡◌, ℕ, Bool, true, false, cond, [], ◌∷◌, Some, None, Option, MatchOption, refl, ap}
+use Rattle.std.specs.Option.{option_map}
+use Rattle.format.specs.Policy.{Policy, postfix}
+use Rattle.format.specs.PolicyWords.{bits_of}
+use Rattle.format.specs.declared.settings.PolicyWord.{PolicyWord}
+use Rattle.tokens.specs.declared.tokens.Symbol.{Symbol}
 use Rattle.tokens.specs.declared.tokens.Symbol.TheVariants.{Number}
-use Rattle.grammar.specs.Trees.{operand, value, legal}
+use Rattle.grammar.specs.declared.machine.Action.{Action}
+use Rattle.grammar.specs.declared.machine.Action.TheVariants.{Operand}
+use Rattle.grammar.specs.Trees.{operand, value}
+use Rattle.grammar.specs.Outlines.{DecidesAct, OfNumber}
 
-pub legal_decided : (f n : ℕ) (make : ℕ → Policy) → f < fields → LegalValue f n → value (legal f) make (Number n) ≡ Some (operand (make n))
-legal_decided f n make h k = ap (λ b. cond b (Some (operand (make n))) None) (and_from _ _ (lt-ltb _ _ h) (lt-ltb _ _ k))
+-- a legal number has the word of its policy, and no other number has one
+abbrev pub WordOf : Bool → Policy → Option PolicyWord → Type 0
+WordOf legal p w = MatchOption w (legal ≡ false) (λ w. (legal ≡ true) × (postfix p ≡ bits_of w ∷ []))
 
-pub price_decided : (n : ℕ) → n < value_end → value (λ n. ltb n value_end) Policy.Cost (Number n) ≡ Some (operand (Policy.Cost n))
-price_decided n h = ap (λ b. cond b (Some (operand (Policy.Cost n))) None) (lt-ltb _ _ h)
+word_decides : (b : Bool) (p : Policy) (w : Option PolicyWord) → WordOf b p w → DecidesAct (cond b (Some (operand p)) None) (option_map Operand w)
+word_decides b p None h = ap (λ b. cond b (Some (operand p)) None) h
+word_decides b p (Some w) h = (p, ap (λ b. cond b (Some (operand p)) None) h.0, h.1)
 
-pub same_setting : (kind : ℕ) {f g m n : ℕ} → g ≡ f → m ≡ n → (word kind f n ∷ []) ≡ (word kind g m ∷ [])
-same_setting kind {f} {g} {m} {n} p q = ap (λ x. word kind x n ∷ []) (sym p) ∙ ap (λ x. word kind g x ∷ []) (sym q)
+module _ {made : ℕ → Option PolicyWord → Type 0} (ok : ℕ → Bool) (make : ℕ → Policy) (words : (n : ℕ) (w : Option PolicyWord) → made n w → WordOf (ok n) (make n) w) where
+  pub value_decides : (s : Symbol) (a : Option Action) → OfNumber made s a → DecidesAct (value ok make s) a
+  value_decides (Number n) a h = rw h.2 (word_decides (ok n) (make n) h.0 (words n h.0 h.1))
+  value_decides _ a h = rw h refl

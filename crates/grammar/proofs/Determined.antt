@@ -1,6 +1,7 @@
 -- A text and the room for its words have one answer.
 use Rattle.std.proofs.Common.{◌≡◌, ℕ, ◌≤◌, ◌⊎◌, List, [], ◌∷◌, ◌++◌, length, take, drop, Some, None, Ok, Err, Result, sym, refl, ap, ◌∙◌, subst, inl, inr, ⊎_elim, arith}
 use Rattle.std.proofs.lemmas.List.{drop_all, take_all, take-append-le, take-append-drop}
+use Rattle.std.proofs.lemmas.List.Sums.{sum_by_push}
 use Rattle.std.proofs.lemmas.Bool.{cases_lt}
 use Rattle.format.specs.Limits.{nesting_limit}
 use Rattle.format.specs.Policy.{Policy, postfix}
@@ -10,10 +11,9 @@ use Rattle.faults.specs.declared.layers.TokenFault.{TokenFault}
 use Rattle.tokens.specs.declared.tokens.Symbol.{Symbol}
 use Rattle.tokens.specs.Lexing.{Lexeme, Cut, cut, front, Starts, start, ahead}
 use Rattle.tokens.specs.Symbols.{judged}
-use Rattle.grammar.specs.Sentences.{Sum, unfinished}
+use Rattle.grammar.specs.Sentences.{Sum, unfinished, needs}
 use Rattle.grammar.specs.Reading.{SymbolAt, NoSymbolAt, Lexes, Accepted, Stops, Refused, Written}
 use Rattle.grammar.proofs.Complete.{tree_unique}
-use Rattle.grammar.proofs.Pushing.{needed_push}
 use Rattle.grammar.proofs.Sound.{shorter}
 
 same_cut : {c d : Cut} → Some c ≡ Some d → c ≡ d
@@ -25,7 +25,7 @@ front_unique bs p q =
     (ap (λ (c : Cut). c.lexeme) e, ap (λ (c : Cut). c.size) e)
 
 no_cut : (bs : List ℕ) {c : Cut} → front bs ≡ None → front bs ≡ Some c → ⊥
-no_cut bs p q = let z : ◌≡◌ {A = ℕ} 0 1 = cc in omega arith
+no_cut bs p q = cc
 
 module _ (text : List ℕ) (n : ℕ) where
   symbol_unique : {s t : Symbol} {m k : ℕ} → SymbolAt text n s m → SymbolAt text n t k → (s ≡ t) × (m ≡ k)
@@ -39,8 +39,7 @@ module _ (text : List ℕ) (n : ℕ) where
   symbol_is_there {s} {f} x (NoSymbolAt.unknown st j) =
       let u = front_unique (ahead text n) x.starts st in
       let clash : Ok s ≡ Err f = sym x.known ∙ ap (λ l. judged l (start text n)) u.0 ∙ j in
-      let z : ◌≡◌ {A = ℕ} 0 1 = cc in
-      omega arith
+      cc
 
   nothing_there : {x : Lexeme} {k : ℕ} → length text ≤ start text n → Starts (ahead text n) x k → ⊥
   nothing_there h s = no_cut (ahead text n) (ap front (drop_all (start text n) text h)) s
@@ -86,7 +85,7 @@ module _ (room : ℕ) (ss : List Symbol) (s : Symbol) where
             ⊎_elim
             (λ past. subst (λ x. length (unfinished x) ≤ nesting_limit) (take-append-le (length ss) ss (s ∷ []) (omega arith) ∙ take_all (length ss) ss (omega arith) ∙ sym (take_all n ss (omega arith))) (a.shallow (length ss)))
             (λ within. subst (λ x. length (unfinished x) ≤ nesting_limit) (take-append-le n ss (s ∷ []) within) (a.shallow n)) (cases_lt (length ss) n);
-        fits = omega (arith, a.fits, needed_push ss s);
+        fits = omega (arith, a.fits, sum_by_push needs ss s);
       }
 
 -- from the symbols of n bytes on, the lexer comes to those of m bytes
@@ -176,8 +175,7 @@ fault_of (Refused.ended l a h s) = record { symbols = _; bytes = _; lexed = l; a
 pub accepted_or_refused : {text : List ℕ} {room n : ℕ} {was is : List ℕ} {e : GrammarFault} → Written text room n was is → Refused text room e → ⊥
 accepted_or_refused w r =
     let clash = one_reading (result_of w) (fault_of r) in
-    let z : ◌≡◌ {A = ℕ} 0 1 = cc in
-    omega arith
+    cc
 
 pub one_fault : {text : List ℕ} {room : ℕ} {e f : GrammarFault} → Refused text room e → Refused text room f → e ≡ f
 one_fault r q =

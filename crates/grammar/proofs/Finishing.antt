@@ -1,5 +1,5 @@
 -- The end of the text, and the whole of it.
-use Rattle.std.proofs.Common.{◌≡◌, ℕ, zero, suc, ◌+◌, ◌≤◌, true, false, eqb, List, [], ◌++◌, length, take, Some, None, sym, refl, ap, ◌∙◌, subst, arith, length-append}
+use Rattle.std.proofs.Common.{◌≡◌, ℕ, zero, suc, ◌+◌, ◌≤◌, true, false, ◌==◌, List, [], ◌++◌, length, take, Some, None, sym, refl, ap, ◌∙◌, subst, arith, length-append}
 use Rattle.std.proofs.lemmas.List.{nil_from_length}
 use Rattle.std.proofs.lemmas.Bool.{eqb-true}
 use Rattle.format.specs.Limits.{nesting_limit}
@@ -8,10 +8,10 @@ use Rattle.tokens.specs.declared.tokens.Symbol.{Symbol}
 use Rattle.grammar.specs.declared.machine.Frame.{Frame}
 use Rattle.grammar.specs.declared.machine.Machine.{Machine}
 use Rattle.grammar.specs.declared.machine.Mode.{Mode}
-use Rattle.grammar.specs.declared.machine.Mode.TheVariants.{Operand, Operator, Relation, Tested, Assigned, Price}
+use Rattle.grammar.specs.declared.machine.Mode.TheVariants.{Operand, Operator}
 use Rattle.grammar.specs.Sentences.{Sum, unfinished}
 use Rattle.grammar.specs.Trees.{Parse, parse, begin, summed}
-use Rattle.grammar.specs.Outlines.{Appended, words_of, held, level_of, level_words}
+use Rattle.grammar.specs.Outlines.{Appended, output, Emitted, words_of, held, level_of, level_words}
 use Rattle.grammar.specs.Reading.{Accepted}
 use Rattle.grammar.specs.Standing.{Stands, final}
 use Rattle.grammar.proofs.Appending.{appended_then, nothing_appended}
@@ -25,40 +25,35 @@ nothing_open : (n : ℕ) → length (unfinished (take n [])) ≤ nesting_limit
 nothing_open zero = omega arith
 nothing_open (suc n) = omega arith
 
-pub start_stands : (was : List ℕ) (room : ℕ) (stack : List Frame) → length stack ≡ nesting_limit → room ≤ length was → Stands room was [] (record { mode = Operand; level = level_of None None; stack = stack; depth = 0; needed = 0; written = 0 }) was
-start_stands was room stack tall h =
+pub start_stands : (was : List ℕ) (m : Machine) → m.mode ≡ Operand → m.level ≡ level_of None None → m.stack.items ≡ [] → m.memory.now ≡ was → m.needed ≡ 0 → m.written ≡ 0 → Stands was [] m
+start_stands was m mode level stack memory needed written =
     record {
       parsed = begin;
       ran = refl;
-      outline = record { mode = refl; level = refl; stacked = refl; tall = tall; within = omega arith };
-      wrote = nothing_appended was 0;
-      count = refl;
+      outline = record { mode = mode; level = level; stacked = stack; within = omega (arith, ap length stack) };
+      wrote = subst (λ is. Appended was 0 is m.written []) (sym memory) (subst (λ n. Appended was 0 was n []) (sym written) (nothing_appended was 0));
+      count = needed;
       fits = omega arith;
-      enough = h;
       shallow = nothing_open;
     }
 
-final_mode : (m : Mode) (d : ℕ) → final m d ≡ true → (m ≡ Operator) × (d ≡ 0)
-final_mode Operand d e = let z : ◌≡◌ {A = ℕ} 0 1 = cc in absurd (omega arith)
-final_mode Operator d e = (refl, eqb-true d 0 e)
-final_mode (Relation f) d e = let z : ◌≡◌ {A = ℕ} 0 1 = cc in absurd (omega arith)
-final_mode (Tested f) d e = let z : ◌≡◌ {A = ℕ} 0 1 = cc in absurd (omega arith)
-final_mode (Assigned f) d e = let z : ◌≡◌ {A = ℕ} 0 1 = cc in absurd (omega arith)
-final_mode Price d e = let z : ◌≡◌ {A = ℕ} 0 1 = cc in absurd (omega arith)
+final_mode : (m : Mode) (stack : List Frame) → final m stack ≡ true → (m ≡ Operator) × (length stack ≡ 0)
+final_mode Operator stack e = (refl, eqb-true _ 0 e)
+final_mode _ stack e = absurd cc
 
-module _ {room : ℕ} {was : List ℕ} {ss : List Symbol} {m : Machine} {is : List ℕ} (h : Stands room was ss m is) where
+module _ {was : List ℕ} {ss : List Symbol} {m : Machine} (h : Stands was ss m) where
   abbrev g : Parse
   g = h.parsed
 
-  pub accepted : Accepted room ss
-  accepted = record { viable = reads_viable (run_reads ss g h.ran); shallow = h.shallow; fits = subst (λ n. n ≤ room) h.count h.fits }
+  pub accepted : Accepted (length was) ss
+  accepted = record { viable = reads_viable (run_reads ss g h.ran); shallow = h.shallow; fits = subst (λ n. n ≤ length was) h.count h.fits }
 
-  module _ (e : final m.mode m.depth ≡ true) where
+  module _ (e : final m.mode m.stack.items ≡ true) where
     whole : g ≡ parse Operator g.left g.early [] g.tree
     whole =
-        let f = final_mode m.mode m.depth e in
+        let f = final_mode m.mode m.stack.items e in
         let p = sym h.outline.mode ∙ f.0 in
-        let q = nil_from_length g.frames (sym (stacked_depth g.frames m.stack m.depth h.outline.stacked) ∙ f.1) in
+        let q = nil_from_length g.frames (sym (stacked_depth g.frames _ h.outline.stacked) ∙ f.1) in
         λ i. parse (p i) g.left g.early (q i) g.tree
 
     tree : Policy
@@ -73,20 +68,19 @@ module _ {room : ℕ} {was : List ℕ} {ss : List Symbol} {m : Machine} {is : Li
         ∙ ap (λ l. ((held g.left ++ held g.early) ++ postfix g.tree) ++ level_words l) h.outline.level
         ∙ sym (summed_words g.left g.early g.tree)
 
-    pub room_to_end : m.written + length (level_words m.level) ≤ length is
-    room_to_end = omega (arith, h.wrote.count, length-append (words_of g) (level_words m.level), ap length words, sum_needs sentence, h.count, h.fits, h.enough)
+    pub room_to_end : m.written + length (level_words m.level) ≤ length m.memory.now
+    room_to_end = omega (arith, h.wrote.count, length-append (words_of g) (level_words m.level), ap length words, sum_needs sentence, h.count, h.fits, h.wrote.long)
 
-    pub finished : (then : List ℕ) (n : ℕ) → Appended is m.written then n (level_words m.level) → (p : Policy) × Sum ss p × Appended was 0 then n (postfix p)
-    finished then n a = (summed g.left g.early g.tree, sentence, subst (Appended was 0 then n) words (appended_then h.wrote a))
+    pub finished : (next : Machine) → Emitted (output m) (output next) (level_words m.level) → (p : Policy) × Sum ss p × Appended was 0 next.memory.now next.written (postfix p)
+    finished next x = (summed g.left g.early g.tree, sentence, subst (Appended was 0 next.memory.now next.written) words (appended_then h.wrote x.appended))
 
-  pub not_finished : final m.mode m.depth ≡ false → (p : Policy) → Sum ss p → ⊥
+  pub not_finished : final m.mode m.stack.items ≡ false → (p : Policy) → Sum ss p → ⊥
   not_finished e p s =
       let x = sum_runs s [] Policy.Drop tt in
       let same : Some g ≡ Some (parse Operator x.0 x.1 [] x.2) = sym h.ran ∙ x.3 in
       let is_g : g ≡ parse Operator x.0 x.1 [] x.2 = cc in
       let md = h.outline.mode ∙ ap (λ (k : Parse). k.mode) is_g in
-      let dp = stacked_depth g.frames m.stack m.depth h.outline.stacked ∙ ap (λ (k : Parse). length k.frames) is_g in
-      let t : final m.mode m.depth ≡ true = ap (λ k. final k m.depth) md ∙ ap (λ d. eqb d 0) dp in
+      let dp = stacked_depth g.frames _ h.outline.stacked ∙ ap (λ (k : Parse). length k.frames) is_g in
+      let t : final m.mode m.stack.items ≡ true = ap (λ k. final k m.stack.items) md ∙ ap (λ d. d == 0) dp in
       let clash : false ≡ true = sym e ∙ t in
-      let z : ◌≡◌ {A = ℕ} 0 1 = cc in
-      omega arith
+      cc

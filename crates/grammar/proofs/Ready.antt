@@ -7,7 +7,7 @@ use Rattle.tokens.specs.declared.tokens.Mark.TheVariants.{Plus, Semicolon, Star,
 use Rattle.tokens.specs.declared.tokens.Symbol.{Symbol}
 use Rattle.tokens.specs.declared.tokens.Symbol.TheVariants.{Field, Number, Drop, Pass, Cost, Mark}
 use Rattle.grammar.specs.declared.machine.Mode.{Mode}
-use Rattle.grammar.specs.declared.machine.Mode.TheVariants.{Operand, Operator, Relation, Tested, Assigned, Price}
+use Rattle.grammar.specs.declared.machine.Mode.TheVariants.{Operator, Relation}
 use Rattle.grammar.specs.Trees.{Act, expect, operand, negate, opening, starring, chaining, adding, closing, Parse, parse, Opened, negation, group, rest, negated, closes, chained, united, summed, act, first, later, relation, value, legal, decision, nested}
 use Rattle.grammar.specs.Outlines.{held, frame_words, operand_words, words_of, extra, Idle, Ready, waits, level_of, level_words, chain_words, sum_words, not_words, outer, opens}
 use Rattle.grammar.proofs.Complete.{Settled}
@@ -27,18 +27,12 @@ FitsFrame s g = opens s ≡ true → length g.frames < nesting_limit
 
 first_allowed : (s : Symbol) (g : Parse) → Idle g.mode → FitsFrame s g → Allowed (first s) g
 first_allowed (Field f) g i h = allowed_cond _ (expect (Relation f)) g (i, tt)
-first_allowed (Number n) g i h = tt
 first_allowed Drop g i h = i
 first_allowed Pass g i h = i
 first_allowed Cost g i h = (i, tt)
-first_allowed (Mark Plus) g i h = tt
-first_allowed (Mark Semicolon) g i h = tt
-first_allowed (Mark Star) g i h = tt
 first_allowed (Mark Not) g i h = (i, h refl)
 first_allowed (Mark Open) g i h = (i, h refl)
-first_allowed (Mark Close) g i h = tt
-first_allowed (Mark Equals) g i h = tt
-first_allowed (Mark Assign) g i h = tt
+first_allowed _ g i h = tt
 
 close_allowed : (l e : Option Policy) (fs : List Opened) (p : Policy) → Settled fs → Allowed (cond (nested fs) (Some closing) None) (parse Operator l e fs p)
 close_allowed l e [] p h = tt
@@ -46,42 +40,20 @@ close_allowed l e (negation ∷ fs) p h = absurd h
 close_allowed l e (group m d ∷ fs) p h = (refl, m, d, fs, refl)
 
 later_allowed : (s : Symbol) (l e : Option Policy) (fs : List Opened) (p : Policy) → Settled fs → Allowed (later (nested fs) s) (parse Operator l e fs p)
-later_allowed (Field f) l e fs p h = tt
-later_allowed (Number n) l e fs p h = tt
-later_allowed Drop l e fs p h = tt
-later_allowed Pass l e fs p h = tt
-later_allowed Cost l e fs p h = tt
 later_allowed (Mark Plus) l e fs p h = refl
 later_allowed (Mark Semicolon) l e fs p h = refl
 later_allowed (Mark Star) l e fs p h = refl
-later_allowed (Mark Not) l e fs p h = tt
-later_allowed (Mark Open) l e fs p h = tt
 later_allowed (Mark Close) l e fs p h = close_allowed l e fs p h
-later_allowed (Mark Equals) l e fs p h = tt
-later_allowed (Mark Assign) l e fs p h = tt
+later_allowed _ l e fs p h = tt
 
 relation_allowed : (f : ℕ) (s : Symbol) (g : Parse) → Idle g.mode → Allowed (relation f s) g
-relation_allowed f (Field h) g i = tt
-relation_allowed f (Number n) g i = tt
-relation_allowed f Drop g i = tt
-relation_allowed f Pass g i = tt
-relation_allowed f Cost g i = tt
-relation_allowed f (Mark Plus) g i = tt
-relation_allowed f (Mark Semicolon) g i = tt
-relation_allowed f (Mark Star) g i = tt
-relation_allowed f (Mark Not) g i = tt
-relation_allowed f (Mark Open) g i = tt
-relation_allowed f (Mark Close) g i = tt
 relation_allowed f (Mark Equals) g i = (i, tt)
 relation_allowed f (Mark Assign) g i = (i, tt)
+relation_allowed f _ g i = tt
 
 value_allowed : (ok : ℕ → Bool) (make : ℕ → Policy) (s : Symbol) (g : Parse) → Idle g.mode → Allowed (value ok make s) g
-value_allowed ok make (Field f) g i = tt
 value_allowed ok make (Number n) g i = allowed_cond _ (operand (make n)) g i
-value_allowed ok make Drop g i = tt
-value_allowed ok make Pass g i = tt
-value_allowed ok make Cost g i = tt
-value_allowed ok make (Mark m) g i = tt
+value_allowed ok make _ g i = tt
 
 allowed : {ss : List Symbol} {g : Parse} → Reads ss g → (s : Symbol) → FitsFrame s g → Allowed (decision g.mode (nested g.frames) s) g
 allowed (Reads.at_operand_lem b) s h = first_allowed s _ tt h
@@ -95,12 +67,8 @@ pub ready : {ss : List Symbol} {g : Parse} → Reads ss g → (s : Symbol) (a : 
 ready {g} r s a e h = subst (λ o. Allowed o g) e (allowed r s h)
 
 idle_words : (m : Mode) (p : Policy) → Idle m → operand_words m p ≡ []
-idle_words Operand p i = refl
 idle_words Operator p i = absurd i
-idle_words (Relation f) p i = refl
-idle_words (Tested f) p i = refl
-idle_words (Assigned f) p i = refl
-idle_words Price p i = refl
+idle_words _ p i = refl
 
 rest_words : (fs : List Opened) → frame_words (rest fs) ≡ frame_words fs
 rest_words [] = refl

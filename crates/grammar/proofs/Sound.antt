@@ -96,11 +96,6 @@ closed_goes {ss} {ts} (group m d ∷ fs) b h s =
     (completes fs y.1 (Atom.group x.reads))
 
 operator_goes : {ss ts : List Symbol} {l e : Option Policy} {fs : List Opened} {p : Policy} → (s : Symbol) → Before ss l e fs → Settled fs → Step ts p → Goes ((ss ++ ts) ++ s ∷ []) (step (parse Operator l e fs p) s)
-operator_goes (Field f) b h u = tt
-operator_goes (Number n) b h u = tt
-operator_goes Drop b h u = tt
-operator_goes Pass b h u = tt
-operator_goes Cost b h u = tt
 operator_goes {ss} {ts} (Mark Plus) b h u =
     let x = sum_closed h b u in
     moved (ap (λ v. v ++ Mark Plus ∷ []) x.split ∙ append_assoc x.front x.part (Mark Plus ∷ [])) (at_operand_lem (Before.added x.before h x.reads))
@@ -108,11 +103,8 @@ operator_goes (Mark Semicolon) b h u =
     let x = chain_closed h b u in
     moved (ap (λ v. v ++ Mark Semicolon ∷ []) x.split ∙ append_assoc x.front x.part (Mark Semicolon ∷ [])) (at_operand_lem (Before.joined x.before h x.reads))
 operator_goes {ss} {ts} (Mark Star) b h u = moved (append_assoc ss ts (Mark Star ∷ [])) (at_operator_lem b h (Step.star u))
-operator_goes (Mark Not) b h u = tt
-operator_goes (Mark Open) b h u = tt
 operator_goes {fs} (Mark Close) b h u = closed_goes fs b h u
-operator_goes (Mark Equals) b h u = tt
-operator_goes (Mark Assign) b h u = tt
+operator_goes _ b h u = tt
 
 -- what a test decides goes on if it goes on where the test holds
 tested : (ss : List Symbol) (b : Bool) (a : Act) (g : Parse) → (b ≡ true → Reads ss (act a g)) → Goes ss (acted (cond b (Some a) None) g)
@@ -121,43 +113,23 @@ tested ss false a g k = tt
 
 operand_goes : {ss : List Symbol} {l e : Option Policy} {fs : List Opened} → (t : Policy) (s : Symbol) → Before ss l e fs → Goes (ss ++ s ∷ []) (step (parse Operand l e fs t) s)
 operand_goes {ss} {l} {e} {fs} t (Field f) b = tested _ _ _ (parse Operand l e fs t) (λ h. at_relation_lem b (ltb-true f fields h))
-operand_goes t (Number n) b = tt
 operand_goes {fs} t Drop b = completes fs b Atom.drops
 operand_goes {fs} t Pass b = completes fs b Atom.passes
 operand_goes t Cost b = at_price_lem b
-operand_goes t (Mark Plus) b = tt
-operand_goes t (Mark Semicolon) b = tt
-operand_goes t (Mark Star) b = tt
 operand_goes t (Mark Not) b = at_operand_lem (Before.banged b)
 operand_goes t (Mark Open) b = at_operand_lem (Before.opened b)
-operand_goes t (Mark Close) b = tt
-operand_goes t (Mark Equals) b = tt
-operand_goes t (Mark Assign) b = tt
+operand_goes t _ b = tt
 
 relation_goes : {ss : List Symbol} {l e : Option Policy} {fs : List Opened} {f : ℕ} → (t : Policy) (s : Symbol) → Before ss l e fs → f < fields → Goes ((ss ++ Field f ∷ []) ++ s ∷ []) (step (parse (Relation f) l e fs t) s)
-relation_goes t (Field g) b h = tt
-relation_goes t (Number n) b h = tt
-relation_goes t Drop b h = tt
-relation_goes t Pass b h = tt
-relation_goes t Cost b h = tt
-relation_goes t (Mark Plus) b h = tt
-relation_goes t (Mark Semicolon) b h = tt
-relation_goes t (Mark Star) b h = tt
-relation_goes t (Mark Not) b h = tt
-relation_goes t (Mark Open) b h = tt
-relation_goes t (Mark Close) b h = tt
 relation_goes {ss} {f} t (Mark Equals) b h = moved (append_assoc ss (Field f ∷ []) (Mark Equals ∷ [])) (at_tested b h)
 relation_goes {ss} {f} t (Mark Assign) b h = moved (append_assoc ss (Field f ∷ []) (Mark Assign ∷ [])) (at_assigned b h)
+relation_goes t _ b h = tt
 
 -- a value completes the atom that it ends
 value_goes : {ss : List Symbol} {l e : Option Policy} {fs : List Opened} → (t : Policy) (ok : ℕ → Bool) (make : ℕ → Policy) (part : List Symbol) (m : Mode) (s : Symbol) → Before ss l e fs → ((n : ℕ) → ok n ≡ true → Atom (part ++ Number n ∷ []) (make n)) → Goes ((ss ++ part) ++ s ∷ []) (acted (value ok make s) (parse m l e fs t))
-value_goes t ok make part m (Field f) b k = tt
 value_goes {ss} {l} {e} {fs} t ok make part m (Number n) b k =
     tested _ _ _ (parse m l e fs t) (λ h. moved (append_assoc ss part (Number n ∷ [])) (completes fs b (k n h)))
-value_goes t ok make part m Drop b k = tt
-value_goes t ok make part m Pass b k = tt
-value_goes t ok make part m Cost b k = tt
-value_goes t ok make part m (Mark x) b k = tt
+value_goes t ok make part m _ b k = tt
 
 pub step_goes : {ss : List Symbol} {g : Parse} → Reads ss g → (s : Symbol) → Goes (ss ++ s ∷ []) (step g s)
 step_goes (Reads.at_operand_lem {t} b) s = operand_goes t s b
@@ -238,8 +210,7 @@ pub stuck : (ss : List Symbol) → runs begin ss ≡ None → Viable ss → ⊥
 stuck ss e v =
     let x = sum_runs v.2 [] Policy.Drop tt in
     let clash : ◌≡◌ {A = Option Parse} None (Some _) = sym (ap (λ o. bind o (λ h. runs h v.0)) e) ∙ sym (runs_append ss v.0 begin) ∙ x.3 in
-    let z : ◌≡◌ {A = ℕ} 0 1 = cc in
-    omega arith
+    cc
 
 -- read to its end, at the outermost level, it is a sentence
 reads_sentence : {ss : List Symbol} {l e : Option Policy} {p : Policy} → Reads ss (parse Operator l e [] p) → Sum ss (summed l e p)

@@ -1,5 +1,6 @@
 -- What the lexer hands out, and what the end of the text shows.
-use Rattle.std.proofs.Common.{◌≡◌, ℕ, ◌≤◌, List, length, Some, Ok, Err, Option, Result, sym, ap, ◌∙◌, subst, arith}
+use Rattle.std.proofs.Common.{◌≡◌, ℕ, ◌≤◌, List, ◌++◌, length, take, drop, Some, Ok, Err, Option, Result, sym, ap, ◌∙◌, subst, arith}
+use Rattle.std.proofs.lemmas.List.{take-append-drop, take-append-le, drop-append-le, length-take, length-take-le}
 use Rattle.faults.specs.declared.layers.GrammarFault.{GrammarFault}
 use Rattle.faults.specs.declared.layers.TokenFault.{TokenFault}
 use Rattle.tokens.specs.declared.tokens.Placed.{Placed}
@@ -10,10 +11,11 @@ use Rattle.grammar.specs.declared.machine.Machine.{Machine}
 use Rattle.grammar.specs.Reading.{SymbolAt, NoSymbolAt, Lexes, Stops, Refused, Answers}
 use Rattle.grammar.specs.Standing.{Stands, Finished}
 use Rattle.grammar.proofs.Complete.{tree_unique}
+use Rattle.grammar.proofs.Counts.{sum_needs}
 use Rattle.grammar.proofs.Finishing.{accepted}
 
-pub found : {text same : List ℕ} (at after : ℕ) {o : Option Placed} (t : Option Placed) → same ≡ text → o ≡ t → Next same at (Ok o) after → Next text at (Ok t) after
-found {text} {same} at after {o} t e k n = subst (λ x. Next x at (Ok t) after) e (subst (λ x. Next same at (Ok x) after) k n)
+pub found : {text same : List ℕ} (at after : ℕ) {o t : Option Placed} → same ≡ text → o ≡ t → Next same at (Ok o) after → Next text at (Ok t) after
+found {text} {same} at after {o} {t} e k n = subst (λ x. Next x at (Ok t) after) e (subst (λ x. Next same at (Ok x) after) k n)
 
 module _ {text : List ℕ} (at after : ℕ) (t : Placed) (n : Next text at (Ok (Some t)) after) where
   pub symbol_found : {s : Symbol} → Ok s ≡ judged (says t.token) t.place → SymbolAt text at s after
@@ -27,7 +29,7 @@ nothing_found {text} {at} {after} f e n =
     let m = subst (λ x. Next x at (Err f) after) e n in
     subst (NoSymbolAt text at) (sym m.2) (NoSymbolAt.nothing_starts m.0 m.1)
 
-pub answers : {text was is : List ℕ} {ss : List Symbol} {at room : ℕ} {m : Machine} → (now : List ℕ) (r : Result ℕ GrammarFault) → Lexes text ss at → Stands room was ss m is → length text ≤ start text at → Finished was ss (length text) r now → Answers text room r was now
+pub answers : {text was : List ℕ} {ss : List Symbol} {at : ℕ} {m : Machine} → (now : List ℕ) (r : Result ℕ GrammarFault) → Lexes text ss at → Stands was ss m → length text ≤ start text at → Finished was ss (length text) r now → Answers text (length was) r was now
 answers {text} {ss} {at} now (Ok n) lexes h end f =
     record {
       symbols = ss;
@@ -42,10 +44,27 @@ answers {text} {ss} {at} now (Ok n) lexes h end f =
       words = f.2.front;
       past = f.2.past;
     }
-answers {text} {room} now (Err e) lexes h end f = subst (Refused text room) (sym f.0) (Refused.ended lexes (accepted h) end f.1)
-
-pub at_room : {text : List ℕ} {few many : ℕ} {e : GrammarFault} → few ≡ many → Refused text few e → Refused text many e
-at_room {text} {e} h r = subst (λ n. Refused text n e) h r
+answers {text} {was} now (Err e) lexes h end f = subst (Refused text (length was)) (sym f.0) (Refused.ended lexes (accepted h) end f.1)
 
 pub at_place : {room : ℕ} {ss : List Symbol} {s : Symbol} {p q : ℕ} {e : GrammarFault} → p ≡ q → Stops room ss s p e → Stops room ss s q e
 at_place {room} {ss} {s} {e} h r = subst (λ n. Stops room ss s n e) h r
+
+-- the answer in a part of the memory is the answer in all of it
+pub answers_within : (text was is : List ℕ) (room : ℕ) (r : Result ℕ GrammarFault) → room ≤ length was → Answers text room r (take room was) is → Answers text room r was (is ++ drop room was)
+answers_within text was is room (Ok n) fits a =
+    let least : n ≤ room = subst (λ k. k ≤ room) (sym (a.count ∙ sum_needs a.sentence)) a.accepted.fits in
+    let few : n ≤ length is = omega (arith, a.count, sym (ap length a.words), length-take n is) in
+    record {
+      symbols = a.symbols;
+      bytes = a.bytes;
+      lexed = a.lexed;
+      ended = a.ended;
+      accepted = a.accepted;
+      tree = a.tree;
+      sentence = a.sentence;
+      unique = a.unique;
+      count = a.count;
+      words = take-append-le n is (drop room was) few ∙ a.words;
+      past = drop-append-le n is (drop room was) few ∙ ap (λ x. x ++ drop room was) a.past ∙ sym (drop-append-le n (take room was) (drop room was) (omega (arith, least, length-take-le room was fits))) ∙ ap (drop n) (take-append-drop room was);
+    }
+answers_within text was is room (Err e) fits a = a

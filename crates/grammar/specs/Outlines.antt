@@ -1,8 +1,12 @@
 -- How the program's automaton stands for what has been read, and what it writes. Only private contracts cite this.
-use Rattle.std.specs.Prelude.{◌≡◌, ℕ, suc, ◌+◌, ◌<◌, ◌≤◌, Bool, true, false, cond, List, [], ◌∷◌, ◌++◌, length, take, drop, Some, None, Option, slice_index_or}
+use Rattle.std.specs.Prelude.{◌≡◌, ℕ, ◌+◌, ◌<◌, ◌≤◌, Bool, true, false, cond, List, [], ◌∷◌, ◌++◌, length, take, drop, Some, None, Option}
+use Rattle.std.specs.Borrow.{GName}
+use Rattle.std.specs.Option.{option_map}
+use Rattle.arrayvec.specs.ArrayVec.{array_vec_len}
 use Rattle.format.specs.Limits.{nesting_limit}
 use Rattle.format.specs.Policy.{Policy, postfix}
 use Rattle.format.specs.PolicyWords.{bits_of}
+use Rattle.format.specs.declared.settings.PolicyWord.{PolicyWord}
 use Rattle.format.specs.Words.{word}
 use Rattle.tokens.specs.declared.tokens.Mark.TheVariants.{Plus, Semicolon, Star as MarkStar, Not as MarkNot, Open as MarkOpen, Close as MarkClose, Equals, Assign}
 use Rattle.tokens.specs.declared.tokens.Symbol.{Symbol}
@@ -29,6 +33,11 @@ DecidesAct o (Some Chain) = o ≡ Some chaining
 DecidesAct o (Some Sum) = o ≡ Some adding
 DecidesAct o (Some Close) = o ≡ Some closing
 
+-- a number is the operand that is made of it, and no other symbol is one
+abbrev pub OfNumber : (ℕ → Option PolicyWord → Type 0) → Symbol → Option Action → Type 0
+OfNumber made (Number n) a = (w : Option PolicyWord) × made n w × (a ≡ option_map Operand w)
+OfNumber made _ a = a ≡ None
+
 abbrev pub waits : Option Policy → Bool
 waits None = false
 waits (Some p) = true
@@ -44,21 +53,16 @@ abbrev pub frame_level : Frame → Level
 frame_level Negation = record { sum = false; chain = false }
 frame_level (Group l) = l
 
-abbrev pub negates : Frame → Bool
-negates Negation = true
-negates (Group l) = false
-
 -- the frames stand on the stack, the latest on top
-abbrev pub Stacked : List Opened → List Frame → ℕ → Type 0
-Stacked [] stack depth = depth ≡ 0
-Stacked (f ∷ fs) stack depth = (below : ℕ) × (depth ≡ suc below) × (slice_index_or stack below Negation ≡ frame_of f) × Stacked fs stack below
+abbrev pub Stacked : List Opened → List Frame → Type 0
+Stacked [] stack = stack ≡ []
+Stacked (f ∷ fs) stack = (below : List Frame) × (stack ≡ below ++ frame_of f ∷ []) × Stacked fs below
 
 pub record Outline (g : Parse) (m : Machine) : Type 0 where
   pub mode : m.mode ≡ g.mode
   pub level : m.level ≡ level_of g.left g.early
-  pub stacked : Stacked g.frames m.stack m.depth
-  pub tall : length m.stack ≡ nesting_limit
-  pub within : m.depth ≤ nesting_limit
+  pub stacked : Stacked g.frames m.stack.items
+  pub within : array_vec_len m.stack ≤ nesting_limit
 
 -- ws were written after the first words, and what lies past them stays
 pub record Appended (was : List ℕ) (at : ℕ) (is : List ℕ) (end : ℕ) (ws : List ℕ) : Type 0 where
@@ -66,6 +70,29 @@ pub record Appended (was : List ℕ) (at : ℕ) (is : List ℕ) (end : ℕ) (ws 
   pub front : take end is ≡ take at was ++ ws
   pub past : drop end is ≡ drop end was
   pub long : length is ≡ length was
+
+-- the memory with who lent it, and how many of its words are needed and written
+pub record Output : Type 0 where
+  pub memory : List ℕ
+  pub lender : GName
+  pub needed : ℕ
+  pub written : ℕ
+
+-- what a machine writes into
+abbrev pub output : Machine → Output
+output m = record { memory = m.memory.now; lender = m.memory.ghost_name; needed = m.needed; written = m.written }
+
+-- ws were written after the words that stood there, into the same memory; no more words are needed
+pub record Emitted (o next : Output) (ws : List ℕ) : Type 0 where
+  pub appended : Appended o.memory o.written next.memory next.written ws
+  pub needed : next.needed ≡ o.needed
+  pub lender : next.lender ≡ o.lender
+
+-- what the automaton expects and what waits stay
+pub record KeepsState (m next : Machine) : Type 0 where
+  pub mode : next.mode ≡ m.mode
+  pub level : next.level ≡ m.level
+  pub stack : next.stack.items ≡ m.stack.items
 
 abbrev pub chain_words : Bool → List ℕ
 chain_words b = cond b (word 7 0 0 ∷ []) []
@@ -155,9 +182,9 @@ Ready adding g = g.mode ≡ Operator
 Ready closing g = (g.mode ≡ Operator) × (l : Option Policy) × (e : Option Policy) × (fs : List Opened) × (g.frames ≡ group l e ∷ fs)
 
 -- there is room for what the action writes
-abbrev pub Possible : Act → Machine → List ℕ → Type 0
-Possible a m was = (g : Parse) × Outline g m × Ready a g × (m.written + length (extra a g) ≤ length was)
+abbrev pub Possible : Act → Machine → Type 0
+Possible a m = (g : Parse) × Outline g m × Ready a g × (m.written + length (extra a g) ≤ length m.memory.now)
 
 -- what the action does to the automaton and to the memory
-abbrev pub Performs : Act → Machine → List ℕ → Machine → List ℕ → Type 0
-Performs a m was next is = (g : Parse) → Outline g m → Ready a g → Outline (act a g) next × Appended was m.written is next.written (extra a g) × (next.needed ≡ m.needed)
+abbrev pub Performs : Act → Machine → Machine → Type 0
+Performs a m next = (g : Parse) → Outline g m → Ready a g → Outline (act a g) next × Emitted (output m) (output next) (extra a g)

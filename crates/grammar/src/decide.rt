@@ -1,9 +1,6 @@
 // What the automaton does at each symbol.
-ghost use Rattle.std.specs.Prelude.{nat_lt};
-ghost use Rattle.format.specs.Policy.{Policy};
-ghost use Rattle.format.specs.Words.{value_end};
-ghost use Rattle.grammar.specs.Trees.{first, later, relation, value, legal, decision};
-ghost use Rattle.grammar.specs.Outlines.{DecidesAct};
+ghost use Rattle.grammar.specs.Trees.{first, later, relation, decision};
+ghost use Rattle.grammar.specs.Outlines.{DecidesAct, OfNumber};
 
 use super::machine::{Action, Mode};
 use format::{Amount, FIELDS, PolicyWord, Setting};
@@ -16,35 +13,22 @@ fn at_operand(symbol: Symbol) -> Option<Action>
         Symbol::Drop => Some(Action::Operand(PolicyWord::Drop)),
         Symbol::Pass => Some(Action::Operand(PolicyWord::Pass)),
         Symbol::Cost => Some(Action::Expect(Mode::Price)),
-        Symbol::Field(field) => {
-            if field < FIELDS {
-                Some(Action::Expect(Mode::Relation(field)))
-            } else {
-                None
-            }
-        }
-        Symbol::Number(_) => None,
-        Symbol::Mark(mark) => match mark {
-            Mark::Not => Some(Action::Negate),
-            Mark::Open => Some(Action::Open),
-            Mark::Plus | Mark::Semicolon | Mark::Star | Mark::Close | Mark::Equals | Mark::Assign =>
-                None,
-        },
+        Symbol::Field(field) if field < FIELDS => Some(Action::Expect(Mode::Relation(field))),
+        Symbol::Mark(Mark::Not) => Some(Action::Negate),
+        Symbol::Mark(Mark::Open) => Some(Action::Open),
+        _ => None,
     }
 }
 
 fn at_operator(bracketed: bool, symbol: Symbol) -> Option<Action>
     ensures { DecidesAct (later bracketed symbol) result }
 {
-    let Symbol::Mark(mark) = symbol else {
-        return None;
-    };
-    match mark {
-        Mark::Plus => Some(Action::Sum),
-        Mark::Semicolon => Some(Action::Chain),
-        Mark::Star => Some(Action::Star),
-        Mark::Close => { if bracketed { Some(Action::Close) } else { None } }
-        Mark::Not | Mark::Open | Mark::Equals | Mark::Assign => None,
+    match symbol {
+        Symbol::Mark(Mark::Plus) => Some(Action::Sum),
+        Symbol::Mark(Mark::Semicolon) => Some(Action::Chain),
+        Symbol::Mark(Mark::Star) => Some(Action::Star),
+        Symbol::Mark(Mark::Close) if bracketed => Some(Action::Close),
+        _ => None,
     }
 }
 
@@ -58,52 +42,33 @@ fn at_relation(field: u32, symbol: Symbol) -> Option<Action>
     }
 }
 
-fn at_test(field: u32, symbol: Symbol) -> Option<Action>
-    ensures { DecidesAct (value (legal field) (Policy.Test field) symbol) result }
+// A number is an operand where a word is made of it.
+fn at_value<F: FnOnce(u32) -> Option<PolicyWord>>(symbol: Symbol, word: F) -> Option<Action>
+    requires { F.IsAlwaysCallable word }
+    ensures { OfNumber (F.post word) symbol result }
 {
     let Symbol::Number(number) = symbol else {
         return None;
     };
-    match Setting::new(field, number) {
-        Some(setting) => Some(Action::Operand(PolicyWord::Test(setting))),
-        None => None,
-    }
+    word(number).map(Action::Operand)
 }
 
-fn at_set(field: u32, symbol: Symbol) -> Option<Action>
-    ensures { DecidesAct (value (legal field) (Policy.Set field) symbol) result }
-{
-    let Symbol::Number(number) = symbol else {
-        return None;
-    };
-    match Setting::new(field, number) {
-        Some(setting) => Some(Action::Operand(PolicyWord::Set(setting))),
-        None => None,
-    }
-}
-
-fn at_price(symbol: Symbol) -> Option<Action>
-    ensures { DecidesAct (value (λ n. nat_lt n value_end) Policy.Cost symbol) result }
-{
-    let Symbol::Number(number) = symbol else {
-        return None;
-    };
-    match Amount::new(number) {
-        Some(amount) => Some(Action::Operand(PolicyWord::Cost(amount))),
-        None => None,
-    }
-}
-
-// What to do at a symbol, or none where no sentence goes on with it; `bracketed` says whether a bracket is open.
-pub(crate) fn decide(mode: Mode, bracketed: bool, symbol: Symbol) -> Option<Action>
-    ensures { DecidesAct (decision mode bracketed symbol) result }
-{
-    match mode {
-        Mode::Operand => at_operand(symbol),
-        Mode::Operator => at_operator(bracketed, symbol),
-        Mode::Relation(field) => at_relation(field, symbol),
-        Mode::Tested(field) => at_test(field, symbol),
-        Mode::Assigned(field) => at_set(field, symbol),
-        Mode::Price => at_price(symbol),
+impl Mode {
+    // What to do at a symbol, or none where no sentence goes on with it; `bracketed` says whether a bracket is open.
+    pub(crate) fn decide(self, bracketed: bool, symbol: Symbol) -> Option<Action>
+        ensures { DecidesAct (decision self bracketed symbol) result }
+    {
+        match self {
+            Mode::Operand => at_operand(symbol),
+            Mode::Operator => at_operator(bracketed, symbol),
+            Mode::Relation(field) => at_relation(field, symbol),
+            Mode::Tested(field) => {
+                at_value(symbol, |n| Setting::new(field, n).map(PolicyWord::Test))
+            }
+            Mode::Assigned(field) => {
+                at_value(symbol, |n| Setting::new(field, n).map(PolicyWord::Set))
+            }
+            Mode::Price => at_value(symbol, |n| Amount::new(n).map(PolicyWord::Cost)),
+        }
     }
 }

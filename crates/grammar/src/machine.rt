@@ -1,4 +1,8 @@
 // The automaton's state: what it expects next, and what waits for an operand.
+ghost use Rattle.std.specs.Prelude.{◌≡◌, []};
+ghost use Rattle.grammar.specs.Standing.{Stands};
+
+use arrayvec::ArrayVec;
 use format::{NESTING_LIMIT, PolicyWord};
 
 // What the automaton expects.
@@ -18,21 +22,23 @@ pub enum Mode {
     Price,
 }
 
-// Which operators wait for their right operand inside the latest bracket.
-#[derive(Clone, Copy)]
+// Which operators wait for their right operand inside the latest bracket: each may without the other.
+#[derive(Clone, Copy, Default)]
 pub struct Level {
     pub sum: bool,
     pub chain: bool,
 }
 
-// What is not yet finished: a `!`, or a `(` with the operators that waited before it.
-#[derive(Clone, Copy)]
+// What is not yet finished: a `!`, or a `(` with the operators that waited before it. The free places of a stack hold the default.
+#[derive(Clone, Copy, Default)]
 pub enum Frame {
+    #[default]
     Negation,
     Group(Level),
 }
 
-// What a symbol makes the automaton do.
+// What a symbol makes the automaton do. It is a value that `perform` switches on, for a symbol may still be refused once this is
+// decided: steps run in the arms of `decide` would each ask for depth and room.
 #[derive(Clone, Copy)]
 pub enum Action {
     Expect(Mode),
@@ -45,12 +51,31 @@ pub enum Action {
     Close,
 }
 
+// The words go into lent memory, by a rule of the project: `written` of them stand there, and the symbols read so far need `needed`.
+// That it `Stands` after those symbols is no ghost field: it does not hold between the steps of one symbol.
 #[derive(Drop)]
-pub struct Machine {
+pub struct Machine<'a> {
     pub mode: Mode,
     pub level: Level,
-    pub stack: [Frame; NESTING_LIMIT],
-    pub depth: usize,
+    pub stack: ArrayVec<Frame, NESTING_LIMIT>,
+    pub memory: &'a mut [u32],
     pub needed: usize,
     pub written: usize,
+}
+
+impl<'a> Machine<'a> {
+    // Nothing is read yet.
+    pub(crate) fn new(memory: &'a mut [u32]) -> Machine<'a>
+        ensures stands { Stands memory.old [] result }
+        ensures lender { result.memory.ghost_name ≡ memory.entry.ghost_name }
+    {
+        Machine {
+            mode: Mode::Operand,
+            level: Level::default(),
+            stack: ArrayVec::new(),
+            memory,
+            needed: 0,
+            written: 0,
+        }
+    }
 }

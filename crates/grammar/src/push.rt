@@ -1,81 +1,60 @@
 // One symbol after another.
-ghost use Rattle.std.specs.Prelude.{◌≡◌, ℕ, ◌≤◌, List};
+ghost use Rattle.std.specs.Prelude.{◌≡◌, ℕ, ◌+◌, ◌<◌, ◌≤◌, ◌==◌, ◌&&◌, List, length, MatchOption};
+ghost use Rattle.arrayvec.specs.ArrayVec.{array_vec_len};
+ghost use Rattle.format.specs.Limits.{nesting_limit};
 ghost use Rattle.tokens.specs.declared.tokens.Symbol.{Symbol as Sym};
 ghost use Rattle.grammar.specs.Outlines.{opens};
 ghost use Rattle.grammar.specs.Sentences.{needs};
-ghost use Rattle.grammar.specs.Standing.{Stands, Pushed, Reserved};
+ghost use Rattle.grammar.specs.Standing.{Stands, Pushed};
 
-use super::decide::decide;
 use super::machine::Machine;
-use super::steps::perform;
 use faults::GrammarFault;
-use format::NESTING_LIMIT;
 use tokens::{Mark, Symbol};
-
-// Whether a symbol opens what must be finished.
-fn nests(symbol: Symbol) -> bool
-    ensures { result ≡ opens symbol }
-{
-    match symbol {
-        Symbol::Mark(mark) => match mark {
-            Mark::Not | Mark::Open => true,
-            Mark::Plus | Mark::Semicolon | Mark::Star | Mark::Close | Mark::Equals | Mark::Assign =>
-                false,
-        },
-        Symbol::Field(_) | Symbol::Number(_) | Symbol::Drop | Symbol::Pass | Symbol::Cost => false,
-    }
-}
 
 fn words_for(symbol: Symbol) -> usize
     ensures { result ≡ needs symbol }
 {
     match symbol {
-        Symbol::Mark(mark) => match mark {
-            Mark::Plus | Mark::Semicolon | Mark::Star | Mark::Not => 1,
-            Mark::Open | Mark::Close | Mark::Equals | Mark::Assign => 0,
-        },
-        Symbol::Number(_) => 0,
-        Symbol::Field(_) | Symbol::Drop | Symbol::Pass | Symbol::Cost => 1,
+        Symbol::Number(_) | Symbol::Mark(Mark::Open | Mark::Close | Mark::Equals | Mark::Assign) =>
+            0,
+        _ => 1,
     }
 }
 
-// The words needed after a symbol.
-fn reserve(
-    depth: usize,
-    count: usize,
-    room: usize,
-    symbol: Symbol,
-    place: usize,
-) -> Result<usize, GrammarFault>
-    requires { count ≤ room }
-    ensures { Reserved depth count room symbol place result }
-{
-    if nests(symbol) {
-        if depth >= NESTING_LIMIT {
+impl Machine<'_> {
+    // Whether a symbol opens one more than may be unfinished at once.
+    fn nests_too_deep(&self, symbol: Symbol) -> bool
+        ensures { result ≡ (opens symbol && (array_vec_len self.now.stack == nesting_limit)) }
+    {
+        matches!(symbol, Symbol::Mark(Mark::Not | Mark::Open)) && self.stack.is_full()
+    }
+
+    // The words needed after a symbol, where the memory has room for them.
+    fn needed_after(&self, symbol: Symbol) -> Option<usize>
+        requires { self.now.needed ≤ length self.now.memory.now }
+        ensures { MatchOption result (length self.now.memory.now < self.now.needed + needs symbol) (λ n. (n ≡ self.now.needed + needs symbol) × (n ≤ length self.now.memory.now)) }
+    {
+        let needed = self.needed + words_for(symbol);
+        (needed <= self.memory.len()).then_some(needed)
+    }
+
+    // Takes one more symbol. It and its place are a pair here alone: `Placed` holds the token and not what it stands for.
+    pub(crate) fn push(&mut self, symbol: Symbol, place: usize) -> Result<(), GrammarFault>
+        requires { (was : List ℕ) × (ss : List Sym) × Stands was ss self.old }
+        ensures pushed { (was : List ℕ) (ss : List Sym) → Stands was ss self.old → Pushed was ss symbol place result self.new }
+        ensures lender { self.new.memory.ghost_name ≡ self.old.memory.ghost_name }
+    {
+        let action = self
+            .mode
+            .decide(!self.stack.is_empty(), symbol)
+            .ok_or(GrammarFault::Unexpected(place))?;
+        if self.nests_too_deep(symbol) {
             return Err(GrammarFault::TooDeep(place));
         }
+        self.needed = self
+            .needed_after(symbol)
+            .ok_or(GrammarFault::NoRoom(place))?;
+        self.perform(action);
+        Ok(())
     }
-    let words = words_for(symbol);
-    if words > room - count {
-        return Err(GrammarFault::NoRoom(place));
-    }
-    Ok(count + words)
-}
-
-pub(crate) fn push(
-    m: &mut Machine,
-    out: &mut [u32],
-    room: usize,
-    symbol: Symbol,
-    place: usize,
-) -> Result<(), GrammarFault>
-    requires { (was : List ℕ) × (ss : List Sym) × Stands room was ss m.old out.old }
-    ensures { (was : List ℕ) (ss : List Sym) → Stands room was ss m.old out.old → Pushed room was ss symbol place result m.new out.new }
-{
-    let Some(action) = decide(m.mode, m.depth > 0, symbol) else {
-        return Err(GrammarFault::Unexpected(place));
-    };
-    m.needed = reserve(m.depth, m.needed, room, symbol, place)?;
-    perform(m, out, action);
-    Ok(())
 }

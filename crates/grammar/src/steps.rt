@@ -1,114 +1,100 @@
 // What each action does to the automaton and to the memory.
-ghost use Rattle.std.specs.Prelude.{◌≡◌, ◌+◌, ◌<◌, ◌≤◌, List, [], ◌∷◌, length, Some, None, slice_set};
+ghost use Rattle.std.specs.Prelude.{◌≡◌, ◌+◌, ◌<◌, ◌≤◌, List, [], ◌∷◌, ◌++◌, length, Some};
+ghost use Rattle.arrayvec.specs.ArrayVec.{array_vec_len};
 ghost use Rattle.format.specs.Limits.{nesting_limit};
 ghost use Rattle.format.specs.Policy.{Policy, postfix};
 ghost use Rattle.format.specs.PolicyWords.{bits_of};
 ghost use Rattle.grammar.specs.declared.machine.Mode.TheVariants.{Operand as AtOperand, Operator};
-ghost use Rattle.grammar.specs.Trees.{Act, operand, negate, opening, starring, chaining, adding, closing, Opened, rest};
-ghost use Rattle.grammar.specs.Outlines.{Appended, Stacked, frame_level, not_words, DecidesAct, Possible, Performs};
+ghost use Rattle.grammar.specs.Trees.{Act, operand, closing, Opened, rest};
+ghost use Rattle.grammar.specs.Outlines.{Stacked, Emitted, output, frame_level, not_words, DecidesAct, Possible, Performs};
 
 use super::machine::{Action, Frame, Level, Machine, Mode};
-use super::words::{emit, end_chain, end_sum, settle};
 use format::PolicyWord;
 
-const NONE_WAITS: Level = Level {
-    sum: false,
-    chain: false,
-};
-
-// Which operators waited before a frame.
-fn level_of(frame: Frame) -> Level
-    ensures { result ≡ frame_level frame }
-{
-    match frame {
-        Frame::Negation => NONE_WAITS,
-        Frame::Group(level) => level,
+impl Frame {
+    // Which operators waited before it.
+    fn level(self) -> Level
+        ensures { result ≡ frame_level self }
+    {
+        match self {
+            Frame::Negation => Level::default(),
+            Frame::Group(level) => level,
+        }
     }
 }
 
-// Finishes each `!` before the operand just written.
-fn complete(m: &mut Machine, out: &mut [u32])
-    requires depth_in_bounds { m.old.depth ≤ length m.old.stack }
-    requires stacked { (fs : List Opened) × Stacked fs m.old.stack m.old.depth × (m.old.written + length (not_words fs) ≤ length out.old) }
-    ensures mode { m.new.mode ≡ Operator }
-    ensures level { m.new.level ≡ m.old.level }
-    ensures stack { m.new.stack ≡ m.old.stack }
-    ensures needed { m.new.needed ≡ m.old.needed }
-    ensures settled { (fs : List Opened) → Stacked fs m.old.stack m.old.depth → Stacked (rest fs) m.old.stack m.new.depth × Appended out.old m.old.written out.new m.new.written (not_words fs) }
-{
-    let (depth, written) = settle(&m.stack, m.depth, out, m.written);
-    m.depth = depth;
-    m.written = written;
-    m.mode = Mode::Operator;
-}
-
-fn operand(m: &mut Machine, out: &mut [u32], word: PolicyWord)
-    requires { (p : Policy) × (postfix p ≡ bits_of word ∷ []) × Possible (operand p) m.old out.old }
-    ensures { (p : Policy) → postfix p ≡ bits_of word ∷ [] → Performs (operand p) m.old out.old m.new out.new }
-{
-    m.written = emit(out, m.written, word);
-    complete(m, out);
-}
-
-// Puts a frame on the stack.
-fn nest(m: &mut Machine, frame: Frame)
-    requires { (m.old.depth < nesting_limit) × (length m.old.stack ≡ nesting_limit) }
-    ensures mode { m.new.mode ≡ AtOperand }
-    ensures level { m.new.level ≡ m.old.level }
-    ensures stack { m.new.stack ≡ slice_set m.old.stack m.old.depth frame }
-    ensures depth { m.new.depth ≡ m.old.depth + 1 }
-    ensures needed { m.new.needed ≡ m.old.needed }
-    ensures written { m.new.written ≡ m.old.written }
-{
-    let depth = m.depth;
-    m.stack[depth] = frame;
-    m.depth = depth + 1;
-    m.mode = Mode::Operand;
-}
-
-// The sum in the latest bracket is an operand of what waited before the bracket.
-fn close(m: &mut Machine, out: &mut [u32])
-    requires { Possible closing m.old out.old }
-    ensures { Performs closing m.old out.old m.new out.new }
-{
-    m.written = end_sum(out, m.written, m.level);
-    let depth = m.depth - 1;
-    let frame = m.stack[depth];
-    m.level = level_of(frame);
-    m.depth = depth;
-    complete(m, out);
-}
-
-pub(crate) fn perform(m: &mut Machine, out: &mut [u32], action: Action)
-    requires { (a : Act) × DecidesAct (Some a) (Some action) × Possible a m.old out.old }
-    ensures { (a : Act) → DecidesAct (Some a) (Some action) → Performs a m.old out.old m.new out.new }
-{
-    match action {
-        Action::Expect(mode) => m.mode = mode,
-        Action::Operand(word) => operand(m, out, word),
-        Action::Negate => nest(m, Frame::Negation),
-        Action::Open => {
-            let level = m.level;
-            nest(m, Frame::Group(level));
-            m.level = NONE_WAITS;
+impl Machine<'_> {
+    // Finishes each `!` before the operand just written.
+    fn complete(&mut self)
+        requires { (os : List Opened) × Stacked os self.old.stack.items × (self.old.written + length (not_words os) ≤ length self.old.memory.now) }
+        ensures mode { self.new.mode ≡ Operator }
+        ensures level { self.new.level ≡ self.old.level }
+        ensures settled { (os : List Opened) → Stacked os self.old.stack.items → Stacked (rest os) self.new.stack.items × Emitted (output self.old) (output self.new) (not_words os) }
+    {
+        while let Some(Frame::Negation) = self.stack.last() {
+            self.stack.pop();
+            self.emit(PolicyWord::Not);
         }
-        Action::Star => m.written = emit(out, m.written, PolicyWord::Star),
-        Action::Chain => {
-            m.written = end_chain(out, m.written, m.level.chain);
-            m.level = Level {
-                sum: m.level.sum,
-                chain: true,
-            };
-            m.mode = Mode::Operand;
+        self.mode = Mode::Operator;
+    }
+
+    fn operand(&mut self, word: PolicyWord)
+        requires { (p : Policy) × (postfix p ≡ bits_of word ∷ []) × Possible (operand p) self.old }
+        ensures { (p : Policy) → postfix p ≡ bits_of word ∷ [] → Performs (operand p) self.old self.new }
+    {
+        self.emit(word);
+        self.complete();
+    }
+
+    // Something is begun that an operand finishes.
+    fn nest(&mut self, frame: Frame)
+        requires { array_vec_len self.old.stack < nesting_limit }
+        ensures mode { self.new.mode ≡ AtOperand }
+        ensures level { self.new.level ≡ self.old.level }
+        ensures stack { self.new.stack.items ≡ self.old.stack.items ++ frame ∷ [] }
+        ensures words { Emitted (output self.old) (output self.new) [] }
+    {
+        self.stack.push(frame);
+        self.mode = Mode::Operand;
+    }
+
+    // The sum in the latest bracket is an operand of what waited before the bracket.
+    fn close(&mut self)
+        requires { Possible closing self.old }
+        ensures { Performs closing self.old self.new }
+    {
+        self.end_sum();
+        self.level = self.stack.pop().map(Frame::level).unwrap_or_default();
+        self.complete();
+    }
+
+    pub(crate) fn perform(&mut self, action: Action)
+        requires { (a : Act) × DecidesAct (Some a) (Some action) × Possible a self.old }
+        ensures { (a : Act) → DecidesAct (Some a) (Some action) → Performs a self.old self.new }
+    {
+        match action {
+            Action::Expect(mode) => self.mode = mode,
+            Action::Operand(word) => self.operand(word),
+            Action::Negate => self.nest(Frame::Negation),
+            Action::Open => {
+                self.nest(Frame::Group(self.level));
+                self.level = Level::default();
+            }
+            Action::Star => self.emit(PolicyWord::Star),
+            Action::Chain => {
+                self.end_chain();
+                self.level.chain = true;
+                self.mode = Mode::Operand;
+            }
+            Action::Sum => {
+                self.end_sum();
+                self.level = Level {
+                    sum: true,
+                    chain: false,
+                };
+                self.mode = Mode::Operand;
+            }
+            Action::Close => self.close(),
         }
-        Action::Sum => {
-            m.written = end_sum(out, m.written, m.level);
-            m.level = Level {
-                sum: true,
-                chain: false,
-            };
-            m.mode = Mode::Operand;
-        }
-        Action::Close => close(m, out),
     }
 }

@@ -1,134 +1,125 @@
-// What words say to a person, appended to a record.
+// What words say to a person.
 #![tactic(auto)]
 
-ghost use Rattle.std.specs.Prelude.{◌≡◌, ◌++◌, codes, decimal, OnOk};
-ghost use Rattle.std.specs.List.{flat_map};
-ghost use Rattle.lines.specs.Lines.{setting, head_said, end_said, weight_said, table_word_said, frame_word_said, table_lines, spaced_hex, words_line};
+ghost use Rattle.std.specs.Prelude.{◌≡◌, Some};
+ghost use Rattle.lines.specs.Lines.{table_word_said, frame_word_said, table_lines, spaced_hex, words_line};
 
 use format::{FIELDS, Word, field_name};
-use numerals::{push_hex, push_number};
-use std::alloc::AllocError;
-use tables::{END, HEAD, MATCH, SET, WEIGHT};
+use frames::FRAME_KIND;
+use numerals::{Decimal, Hex, write_each};
+use std::fmt;
+use tables::TableKind;
 
-// The kind of a frame's words.
-const FRAME: u32 = 9;
+// A word of a table.
+#[derive(Clone, Copy)]
+struct TableSaid(u32);
 
-// Appends a label and what a word says of a field.
-fn push_labelled(out: &mut Vec<u8>, label: &[u8], bits: u32, sign: &[u8]) -> Result<(), AllocError>
-    ensures { OnOk result (out.new.items ≡ out.old.items ++ setting label.now sign.now bits) }
-{
-    let word = Word::split(bits);
-    out.extend_from_slice(label)?;
-    out.extend_from_slice(field_name(word.field))?;
-    push_number(out, sign, word.value as u64, b"")?;
-    Ok(())
-}
+// Three types here owe `write_each` their `From`, and each writes it: the repository's own macros may write no impl.
+impl From<u32> for TableSaid {
+    ghost from_gives = { λ bits w. w.0 ≡ bits };
 
-// Appends how a row begins, on a line of its own.
-fn push_head(out: &mut Vec<u8>, bits: u32) -> Result<(), AllocError>
-    ensures { OnOk result (out.new.items ≡ out.old.items ++ head_said bits) }
-{
-    let word = Word::split(bits);
-    push_number(out, b"\nrow with ", word.field as u64, b" matches and ")?;
-    push_number(out, b"", word.value as u64, b" emissions:")?;
-    Ok(())
-}
-
-fn push_end(out: &mut Vec<u8>, bits: u32) -> Result<(), AllocError>
-    ensures { OnOk result (out.new.items ≡ out.old.items ++ end_said bits) }
-{
-    push_number(
-        out,
-        b"\nend of ",
-        Word::split(bits).value as u64,
-        b" rows\n",
-    )?;
-    Ok(())
-}
-
-fn push_weight(out: &mut Vec<u8>, bits: u32) -> Result<(), AllocError>
-    ensures { OnOk result (out.new.items ≡ out.old.items ++ weight_said bits) }
-{
-    push_number(out, b" at weight ", Word::split(bits).value as u64, b"")?;
-    Ok(())
-}
-
-fn push_table_word(out: &mut Vec<u8>, bits: u32) -> Result<(), AllocError>
-    ensures { OnOk result (out.new.items ≡ out.old.items ++ table_word_said bits) }
-{
-    match Word::split(bits).kind {
-        HEAD => push_head(out, bits),
-        MATCH => push_labelled(out, b" if ", bits, b"="),
-        WEIGHT => push_weight(out, bits),
-        SET => push_labelled(out, b" set ", bits, b":="),
-        END => push_end(out, bits),
-        _ => out.extend_from_slice(b" ?"),
+    fn from(bits: u32) -> TableSaid {
+        TableSaid(bits)
     }
 }
 
-fn push_table_words(out: &mut Vec<u8>, words: &[u32]) -> Result<(), AllocError>
-    ensures { OnOk result (out.new.items ≡ out.old.items ++ flat_map table_word_said words.now) }
-{
-    for word in words {
-        push_table_word(out, *word)?;
-    }
-    Ok(())
-}
+impl fmt::Display for TableSaid {
+    ghost output = { λ w. Some (table_word_said w.0) };
 
-// Appends the table in words.
-pub fn push_table(out: &mut Vec<u8>, words: &[u32]) -> Result<(), AllocError>
-    ensures { OnOk result (out.new.items ≡ out.old.items ++ table_lines words.now) }
-{
-    push_number(out, b"table of ", words.len() as u64, b" words")?;
-    push_table_words(out, words)?;
-    Ok(())
-}
-
-fn push_frame_word(out: &mut Vec<u8>, bits: u32) -> Result<(), AllocError>
-    ensures { OnOk result (out.new.items ≡ out.old.items ++ frame_word_said bits) }
-{
-    let word = Word::split(bits);
-    match word.kind {
-        FRAME if word.field < FIELDS => push_labelled(out, b" ", bits, b"="),
-        WEIGHT => push_weight(out, bits),
-        _ => out.extend_from_slice(b" ?"),
+    fn fmt<W: fmt::Write>(&self, f: &mut fmt::Formatter<W>) -> fmt::Result {
+        let word = Word::from(self.0);
+        let name = field_name(word.field);
+        let value = Decimal(word.value as u64);
+        match TableKind::try_from(word.kind) {
+            Ok(TableKind::Head) => {
+                let matches = Decimal(word.field as u64);
+                write!(f, "\nrow with {matches} matches and {value} emissions:")
+            }
+            Ok(TableKind::Match) => write!(f, " if {name}={value}"),
+            Ok(TableKind::Weight) => write!(f, " at weight {value}"),
+            Ok(TableKind::Set) => write!(f, " set {name}:={value}"),
+            Ok(TableKind::End) => write!(f, "\nend of {value} rows\n"),
+            Err(_) => f.write_str(" ?"),
+        }
     }
 }
 
-fn push_frame_words(out: &mut Vec<u8>, words: &[u32]) -> Result<(), AllocError>
-    ensures { OnOk result (out.new.items ≡ out.old.items ++ flat_map frame_word_said words.now) }
-{
-    for word in words {
-        push_frame_word(out, *word)?;
+// A table in words, a line for each row.
+#[derive(Clone, Copy, Debug, PartialEq, Eq)]
+pub struct Table<'a>(pub &'a [u32]);
+
+impl fmt::Display for Table<'_> {
+    ghost output = { λ t. Some (table_lines t.0.now) };
+
+    fn fmt<W: fmt::Write>(&self, f: &mut fmt::Formatter<W>) -> fmt::Result {
+        write!(f, "table of {} words", Decimal(self.0.len() as u64))?;
+        write_each::<_, TableSaid>(f, self.0)
     }
-    Ok(())
 }
 
-fn push_spaced_hex(out: &mut Vec<u8>, word: u32) -> Result<(), AllocError>
-    ensures { OnOk result (out.new.items ≡ out.old.items ++ spaced_hex word) }
-{
-    out.push(b' ')?;
-    push_hex(out, word)?;
-    Ok(())
-}
+// A word of a frame or of an answer.
+#[derive(Clone, Copy)]
+struct FrameSaid(u32);
 
-fn push_hexes(out: &mut Vec<u8>, words: &[u32]) -> Result<(), AllocError>
-    ensures { OnOk result (out.new.items ≡ out.old.items ++ flat_map spaced_hex words.now) }
-{
-    for word in words {
-        push_spaced_hex(out, *word)?;
+impl From<u32> for FrameSaid {
+    ghost from_gives = { λ bits w. w.0 ≡ bits };
+
+    fn from(bits: u32) -> FrameSaid {
+        FrameSaid(bits)
     }
-    Ok(())
 }
 
-// Appends a line: a title, words in hexadecimal digits, and what they say.
-pub fn push_line(out: &mut Vec<u8>, title: &[u8], words: &[u32]) -> Result<(), AllocError>
-    ensures { OnOk result (out.new.items ≡ out.old.items ++ words_line title.now words.now) }
-{
-    out.extend_from_slice(title)?;
-    push_hexes(out, words)?;
-    out.push(b':')?;
-    push_frame_words(out, words)?;
-    out.push(b'\n')?;
-    Ok(())
+impl fmt::Display for FrameSaid {
+    ghost output = { λ w. Some (frame_word_said w.0) };
+
+    fn fmt<W: fmt::Write>(&self, f: &mut fmt::Formatter<W>) -> fmt::Result {
+        let word = Word::from(self.0);
+        let value = Decimal(word.value as u64);
+        if word.kind == FRAME_KIND && word.field < FIELDS {
+            write!(f, " {}={value}", field_name(word.field))
+        } else if word.kind == u32::from(TableKind::Weight) {
+            write!(f, " at weight {value}")
+        } else {
+            f.write_str(" ?")
+        }
+    }
+}
+
+// A word in hexadecimal digits, behind a space.
+#[derive(Clone, Copy)]
+struct SpacedHex(u32);
+
+impl From<u32> for SpacedHex {
+    ghost from_gives = { λ bits w. w.0 ≡ bits };
+
+    fn from(bits: u32) -> SpacedHex {
+        SpacedHex(bits)
+    }
+}
+
+impl fmt::Display for SpacedHex {
+    ghost output = { λ w. Some (spaced_hex w.0) };
+
+    fn fmt<W: fmt::Write>(&self, f: &mut fmt::Formatter<W>) -> fmt::Result {
+        write!(f, " {}", Hex(self.0))
+    }
+}
+
+// A line: a title, words in hexadecimal digits, and what they say.
+#[derive(Clone, Copy, Debug, PartialEq, Eq)]
+pub struct Line<'a> {
+    pub title: &'a str,
+    pub words: &'a [u32],
+}
+
+impl fmt::Display for Line<'_> {
+    ghost output = { λ l. Some (words_line l.title.now l.words.now) };
+
+    fn fmt<W: fmt::Write>(&self, f: &mut fmt::Formatter<W>) -> fmt::Result {
+        f.write_str(self.title)?;
+        write_each::<_, SpacedHex>(f, self.words)?;
+        f.write_str(":")?;
+        write_each::<_, FrameSaid>(f, self.words)?;
+        f.write_str("\n")
+    }
 }

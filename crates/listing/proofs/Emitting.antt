@@ -1,38 +1,21 @@
 -- A table emits what its diagram gives.
-use Rattle.std.proofs.Common.{◌≡◌, ℕ, Bool, true, false, cond, ◌&&◌, eqb, List, [], ◌∷◌, ◌++◌, map, length, get_or, sym, refl, ap, ◌∙◌, subst, ap₂}
+use Rattle.std.proofs.Common.{◌≡◌, ℕ, Bool, false, cond, List, [], ◌∷◌, ◌++◌, map, length, get_or, sym, refl, ap, ◌∙◌}
 use Rattle.std.specs.List.{AllByRecursion}
+use Rattle.std.proofs.lemmas.Bool.{false_from_ne_true}
 use Rattle.format.specs.Fields.{fields}
 use Rattle.format.specs.Actions.{apply}
 use Rattle.weights.specs.Weights.{Ops, Laws, Weight}
 use Rattle.weights.proofs.Order.{join_zero}
 use Rattle.tables.specs.Rows.{Row}
+use Rattle.tables.proofs.Scans.{same_decides}
 use Rattle.tables.specs.Emits.{holds, replaced, same, joins, emits}
 use Rattle.meaning.specs.Decide.{choice, decide, equal_lists}
 use Rattle.meaning.specs.Leaves.{Action, Frame, Cell, Each, CellFormed, LeafFormed, gather}
 use Rattle.meaning.specs.Diagrams.{Diagram, Leaf, Node, reach, Formed, emits as gives}
 use Rattle.listing.specs.Rows.{rows_of, row_of, emission_of, sets_from}
 use Rattle.listing.specs.Tables.{FirstMatch, EmitsWhatTheDiagramGives, reached, place_of}
-use Rattle.listing.proofs.Leaves.{eqb_yes, eqb_no, first_match}
+use Rattle.listing.proofs.Leaves.{first_match}
 use Rattle.listing.proofs.Sets.{replaced_sets}
-
--- the test of frames, decided
-same_frames : (s t : Frame) → s ≡ t → same s t ≡ true
-same_frames s t e = subst (λ (u : Frame). same s u ≡ true) e (self s)
-  where
-    self : (u : Frame) → same u u ≡ true
-    self [] = refl
-    self (m ∷ u) = ap (λ (b : Bool). b && same u u) (eqb_yes m m refl) ∙ self u
-
-other_frames : (s t : Frame) → (s ≡ t → ⊥) → same s t ≡ false
-other_frames [] [] h = absurd (h refl)
-other_frames [] (n ∷ t) h = refl
-other_frames (m ∷ s) [] h = refl
-other_frames (m ∷ s) (n ∷ t) h = go (decide m n) (other_frames s t)
-  where
-    go : Dec (m ≡ n) → ((s ≡ t → ⊥) → same s t ≡ false) → eqb m n && same s t ≡ false
-    go (yes e) further =
-        ap (λ (b : Bool). b && same s t) (eqb_yes m n e) ∙ further (λ q. h (ap₂ {C = Frame} (λ (v : ℕ) (u : Frame). v ∷ u) e q))
-    go (no g) further = ap (λ (b : Bool). b && same s t) (eqb_no m n g)
 
 -- the row that matches first decides
 emits_first : (o : Ops) (rows : List Row) (i : ℕ) (r : Row) (s t : Frame) → FirstMatch s rows i r → emits o rows s t ≡ joins o s t o.zero r.emissions
@@ -69,8 +52,8 @@ module _ {o : Ops} (L : Laws o) where
       ap (λ (u : Frame). cond (same u t) (o.join a c.1) a) (replaced_sets c.0 s e) ∙ go (equal_lists decide (apply c.0 s) t)
     where
       go : (d : Dec (apply c.0 s ≡ t)) → cond (same (apply c.0 s) t) (o.join a c.1) a ≡ o.join a (choice d c.1 o.zero)
-      go (yes q) = ap (λ (b : Bool). cond b (o.join a c.1) a) (same_frames (apply c.0 s) t q)
-      go (no q) = ap (λ (b : Bool). cond b (o.join a c.1) a) (other_frames (apply c.0 s) t q) ∙ sym (join_zero L w)
+      go (yes q) = ap (λ (b : Bool). cond b (o.join a c.1) a) ((same_decides (apply c.0 s) t).1 q)
+      go (no q) = ap (λ (b : Bool). cond b (o.join a c.1) a) (false_from_ne_true _ (λ e. q ((same_decides (apply c.0 s) t).0 e))) ∙ sym (join_zero L w)
 
   joins_cells :
       (s t : Frame) →

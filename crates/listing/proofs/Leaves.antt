@@ -1,7 +1,7 @@
 -- Which row of a diagram's leaves matches a frame first. Assumes nothing.
-use Rattle.std.proofs.Common.{◌≡◌, ℕ, ◌+◌, Bool, true, false, ◌&&◌, T, eqb, List, [], ◌∷◌, ◌++◌, map, length, get_or, sym, refl, ap, ◌∙◌, subst, ap₂, append_assoc, eqb→eq, length-append}
+use Rattle.std.proofs.Common.{◌≡◌, ℕ, ◌+◌, Bool, true, false, ◌&&◌, eqb, List, [], ◌∷◌, ◌++◌, map, length, get_or, sym, refl, ap, ◌∙◌, ap₂, append_assoc, length-append}
 use mathlib.Core.List.{map-append}
-use lib.Dec.{eqb_refl}
+use Rattle.std.proofs.lemmas.Bool.{eq-eqb, ne_eqb}
 use lib.ListN.{length-map}
 use Rattle.std.specs.List.{AllByRecursion}
 use Rattle.tables.specs.Emits.{holds}
@@ -10,21 +10,7 @@ use Rattle.meaning.specs.Leaves.{Frame}
 use Rattle.meaning.specs.Diagrams.{Diagram, Leaf, Node, reach}
 use Rattle.listing.specs.Rows.{Placed, behind, leaves_of, row_of}
 use Rattle.listing.specs.Tables.{passed, reached, place_of, FirstMatchIsTheLeafReached}
-use Rattle.listing.proofs.Lists.{all_append, all_of, all_map}
-
-is_true : (b : Bool) → T b → b ≡ true
-is_true true t = refl
-is_true false t = absurd t
-
-is_false : (b : Bool) → (T b → ⊥) → b ≡ false
-is_false true h = absurd (h tt)
-is_false false h = refl
-
-pub eqb_yes : (m n : ℕ) → m ≡ n → eqb m n ≡ true
-eqb_yes m n e = subst (λ (k : ℕ). eqb m k ≡ true) e (is_true (eqb m m) (eqb_refl m))
-
-pub eqb_no : (m n : ℕ) → (m ≡ n → ⊥) → eqb m n ≡ false
-eqb_no m n h = is_false (eqb m n) (λ t. h (eqb→eq m n t))
+use Rattle.listing.proofs.Lists.{all_append, all_map, all_of_map}
 
 -- among the leaves, p is the first whose tests all hold of the frame, and i leaves come before it
 record First (s : Frame) (ps : List Placed) (i : ℕ) (p : Placed) : Type 0 where
@@ -54,7 +40,7 @@ first_yes f n y z s i p e h =
     }
   where
     test_yes : {b : Bool} → eqb (get_or s f 0) n && b ≡ b
-    test_yes {b} = ap (λ (c : Bool). c && b) (eqb_yes (get_or s f 0) n e)
+    test_yes {b} = ap (λ (c : Bool). c && b) (eq-eqb (get_or s f 0) n e)
 
 first_no :
     (f n : ℕ) (y z : Diagram) (s : Frame) (i : ℕ) (p : Placed) →
@@ -73,10 +59,9 @@ first_no f n y z s i p e h =
           ∙ ap₂ (λ (a b : ℕ). a + b) (length-map (leaves_of y) (behind f n)) h.place;
       fail =
           all_append (λ q. holds q.way s ≡ false) (map (behind f n) (leaves_of y)) h.earlier
-          (all_map (behind f n) (λ q. Unit {0}) (λ q. holds q.way s ≡ false)
-          (λ q k. ap (λ (c : Bool). c && holds q.way s) (eqb_no (get_or s f 0) n e))
-          (leaves_of y)
-          (all_of (λ q. Unit {0}) (λ q. tt) (leaves_of y)))
+          (all_of_map (behind f n) (λ q. holds q.way s ≡ false)
+          (λ q. ap (λ (c : Bool). c && holds q.way s) (ne_eqb (get_or s f 0) n e))
+          (leaves_of y))
           h.fail;
       hold = h.hold;
     }

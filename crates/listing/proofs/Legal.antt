@@ -10,7 +10,7 @@ use Rattle.meaning.specs.Leaves.{Cell, Each, CellFormed, LeafFormed}
 use Rattle.meaning.specs.Diagrams.{Diagram, Leaf, Node, Tests, Formed}
 use Rattle.listing.specs.Rows.{Placed, behind, leaves_of, row_of, rows_of, emission_of}
 use Rattle.listing.specs.Tables.{ListedLegally, ListsLegally, ShortLists}
-use Rattle.listing.proofs.Lists.{all_append, all_imp, all_both, all_map, all_unmap}
+use Rattle.listing.proofs.Lists.{all_append, all_imp, all_map, all_map₂, all_unmap}
 use Rattle.listing.proofs.Sets.{legal_sets}
 
 -- the end word can count the leaves, and a head the cells of each
@@ -64,10 +64,9 @@ module _ (o : Ops) where
   rows_legal d h k =
       record {
         each =
-            all_map row_of (λ p. LegalRow o (row_of p)) (LegalRow o) (λ p l. l) (leaves_of d)
-            (all_both (PlacedFormed 0) (λ p. length p.cells < value_end) (λ p. LegalRow o (row_of p)) row_legal (leaves_of d)
+            all_map₂ row_of (PlacedFormed 0) (λ p. length p.cells < value_end) (LegalRow o) row_legal (leaves_of d)
             (leaves_formed 0 d h (tests_all (λ g m. 0 ≤ g) (λ g m. zero-le) d))
-            k.cells);
+            k.cells;
         countable = subst (λ (n : ℕ). n < value_end) (sym (length-map (leaves_of d) row_of)) k.leaves;
       }
 

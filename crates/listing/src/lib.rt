@@ -8,12 +8,13 @@ ghost use Rattle.meaning.specs.Constructions.{drop_diagram};
 ghost use Rattle.listing.specs.Rows.{rows_of};
 ghost use Rattle.listing.specs.Tables.{FirstMatchIsTheLeafReached, ListsLegally, ShortLists, EmitsWhatTheDiagramGives, DropEmitsNothing};
 
-use format::{KIND_UNIT, VALUE_END};
-use tables::{END, HEAD};
+use format::VALUE_END;
+use tables::{TableKind, TableWord};
 use weights::WeightKind;
 
 // The place of the row of the leaf at this place, which is the same: rows stand as the leaves do, and the
 // first that matches a frame is that of the leaf that the frame reaches. None where there is no such leaf.
+#[tactic(auto, using(crate::proofs::Leaves::first_match))]
 pub fn row_of_leaf(place: u32, leaves: u32) -> Option<u32>
     ensures some { IfSome result (λ i. (i ≡ place) × (i < leaves) × FirstMatchIsTheLeafReached) }
     ensures none { IfNone result (leaves ≤ place) }
@@ -30,19 +31,25 @@ pub fn end_word<K: WeightKind>(leaves: u32, cells: u32) -> Option<u32>
     if leaves >= VALUE_END || cells >= VALUE_END {
         return None;
     }
-    Some(END * KIND_UNIT + leaves)
+    let end = TableWord {
+        kind: TableKind::End,
+        field: 0,
+        value: leaves,
+    };
+    Some(u32::from(end))
 }
 
 // How many leaves at most a diagram has whose table has so many words: each row has a head, and an end word
 // follows. Such a table is legal. None where there is no end word, or a word might not count what is listed.
+#[tactic(auto, using(crate::proofs::Legal::short_lists))]
 pub fn most_leaves<K: WeightKind>(words: u32) -> Option<u32>
     ensures some { IfSome result (λ n. (n + 1 ≡ words) × (words ≤ value_end) × ShortLists K.WeightKind.ops words n) }
     ensures none { IfNone result (0 < words → words ≤ value_end → ⊥) }
 {
-    if words == 0 || words > VALUE_END {
+    if words > VALUE_END {
         return None;
     }
-    Some(words - 1)
+    words.checked_sub(1)
 }
 
 // The weight at which the table of a diagram emits a frame to which the diagram gives this weight: the same.
@@ -63,5 +70,15 @@ pub fn drop_table<K: WeightKind>() -> [u32; 2]
     ensures legal { LegalRows K.WeightKind.ops (rows_of drop_diagram) }
     ensures nothing { DropEmitsNothing K.WeightKind.ops }
 {
-    [HEAD * KIND_UNIT, END * KIND_UNIT + 1]
+    let head = TableWord {
+        kind: TableKind::Head,
+        field: 0,
+        value: 0,
+    };
+    let end = TableWord {
+        kind: TableKind::End,
+        field: 0,
+        value: 1,
+    };
+    [u32::from(head), u32::from(end)]
 }

@@ -1,3 +1,1 @@
-mod Digits
-pub mod Pieces
-pub mod Appended
+mod HexWords

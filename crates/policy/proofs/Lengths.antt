@@ -1,15 +1,10 @@
 -- A text that is not too long is answered as the grammar answers it.
-use Rattle.std.proofs.Common.{◌≡◌, ℕ, ◌≤◌, min, List, length, Ok, Err, Result, sym, ap, ◌∙◌, arith, length-take}
+use Rattle.std.proofs.Common.{ℕ, ◌≤◌, List, length, Ok, Err, Result}
 use Rattle.faults.specs.declared.layers.GrammarFault.{GrammarFault}
 use Rattle.format.specs.Limits.{text_limit}
-use Rattle.grammar.specs.Reading.{Answers, Written, room_in}
+use Rattle.grammar.specs.Reading.{Answers, room_in}
 use Rattle.policy.specs.Reading.{Rejected, Scanned}
 
 pub scanned : (text was is : List ℕ) (r : Result ℕ GrammarFault) → length text ≤ text_limit → Answers text (room_in (length was)) r was is → Scanned text r was is
 scanned text was is (Ok n) h a = (h, a)
 scanned text was is (Err e) h a = Rejected.refused h a
-
--- the words that were written stand in the memory
-pub words_inside : (text : List ℕ) (room n : ℕ) (was is : List ℕ) → Written text room n was is → n ≤ length is
-words_inside text room n was is w =
-    let e : min n (length is) ≡ n = sym (length-take n is) ∙ ap length w.words ∙ sym w.count in omega arith

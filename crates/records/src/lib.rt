@@ -7,3 +7,4 @@ mod words;
 
 pub use kinds::{Cell, Diagram, Node};
 pub use same::Record;
+pub use words::NoDiagram;

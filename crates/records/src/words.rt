@@ -1,46 +1,49 @@
 // Diagrams by their 32-bit words.
-ghost use Rattle.std.specs.Prelude.{◌≡◌, MatchOption, ◌≢◌};
-ghost use Rattle.records.specs.Words.{word_of};
+ghost use Rattle.std.specs.Prelude.{◌≡◌, MatchResult, ◌≢◌};
+ghost use Rattle.records.specs.declared.kinds.Diagram.{Diagram};
+ghost use Rattle.records.specs.Words.{word_of, ItsWord};
 
 use super::kinds::Diagram;
 use format::{Amount, KIND_UNIT, Word};
 
-// The kind of a node's word; a leaf's is 0.
+// The kinds of the words of leaves and of nodes. They are numbers in these two conversions alone: `Diagram` is the enum of
+// the kinds, with what each carries.
+const LEAF: u32 = 0;
+
 const BRANCH: u32 = 1;
 
-fn bits(diagram: Diagram) -> u32
-    ensures { result ≡ word_of diagram }
-{
-    match diagram {
-        Diagram::Leaf(first) => first.number,
-        Diagram::Branch(node) => KIND_UNIT + node.number,
+// A word that is no diagram's.
+#[derive(Clone, Copy, PartialEq, Eq, Debug)]
+pub struct NoDiagram(pub u32);
+
+impl TryFrom<u32> for Diagram {
+    type Error = NoDiagram;
+
+    ghost try_from_gives = { λ bits result. MatchResult result (λ d. word_of d ≡ bits) (λ e. (e.0 ≡ bits) × ((d : Diagram) → word_of d ≢ bits)) };
+
+    fn try_from(bits: u32) -> Result<Diagram, NoDiagram> {
+        let Word { kind, field, value } = Word::from(bits);
+        let number = Amount { number: value };
+        match (kind, field) {
+            (LEAF, 0) => Ok(Diagram::Leaf(number)),
+            (BRANCH, 0) => Ok(Diagram::Branch(number)),
+            _ => Err(NoDiagram(bits)),
+        }
+    }
+}
+
+impl From<Diagram> for u32 {
+    ghost from_gives = { λ diagram bits. ItsWord diagram bits };
+
+    fn from(diagram: Diagram) -> u32 {
+        match diagram {
+            Diagram::Leaf(first) => LEAF * KIND_UNIT + first.number,
+            Diagram::Branch(node) => BRANCH * KIND_UNIT + node.number,
+        }
     }
 }
 
 impl Diagram {
-    // The diagram with this word, or none where no diagram has it.
-    pub fn from_word(bits: u32) -> Option<Diagram>
-        ensures { MatchOption result ((d : Diagram) → word_of d ≢ bits) (λ d. word_of d ≡ bits) }
-    {
-        let word = Word::split(bits);
-        if word.field != 0 {
-            return None;
-        }
-        let number = Amount::new(word.value)?;
-        match word.kind {
-            0 => Some(Diagram::Leaf(number)),
-            BRANCH => Some(Diagram::Branch(number)),
-            _ => None,
-        }
-    }
-
-    pub fn word(self) -> u32
-        ensures word { result ≡ word_of self }
-        ensures alone { (d : Diagram) → word_of d ≡ result → d ≡ self }
-    {
-        bits(self)
-    }
-
     // The diagram that drops every frame.
     pub fn drop_all() -> Diagram
         ensures { word_of result ≡ 0 }

@@ -13,15 +13,11 @@ fn run(rt: &HostRuntime) -> anyhow::Result<()> {
     let (Some(kind), Some(table), Some(frames)) = (args.next(), args.next(), args.next()) else {
         return Err(anyhow!("usage: replay KIND TABLE FRAMES"));
     };
-    let kind = match kind.as_str() {
-        "reach" => Kind::Reach,
-        "cost" => Kind::Cost,
-        _ => return Err(anyhow!("the kind is reach or cost")),
-    };
+    let kind = kind.as_str().parse::<Kind>()?;
     let table = fs::read(rt, table.as_str())?;
     let frames = fs::read(rt, frames.as_str())?;
     let record = replay(rt.alloc(), kind, &table, &frames)?;
-    rt.stdout().write_all(&record)?;
+    rt.stdout().write_all(record.as_bytes())?;
     Ok(())
 }
 

@@ -1,5 +1,4 @@
-mod Fours
-mod Emitted
+mod EmittedLines
 mod Widths
 mod Frames
 mod Records

@@ -1,6 +1,7 @@
 -- The record of a replay, by what the table does with each frame.
-use Rattle.std.specs.Prelude.{◌≡◌, ℕ, ◌*◌, ◌<◌, List, [], ◌++◌, length, take, drop}
+use Rattle.std.specs.Prelude.{◌≡◌, ℕ, ◌*◌, ◌/◌, ◌<◌, List, [], ◌++◌, length, take, drop}
 use Rattle.std.specs.List.{flat_map}
+use Rattle.std.specs.Simd.{first_chunks}
 use Rattle.faults.specs.declared.layers.FrameFault.{FrameFault}
 use Rattle.faults.specs.declared.layers.TableFault.TheVariants.{Illegal}
 use Rattle.faults.specs.Shows.{table_shown, frame_shown}
@@ -13,9 +14,17 @@ use Rattle.tables.specs.Rows.{Row, LegalRows, table_words}
 use Rattle.tables.specs.Emits.{Sent, sent_length, sent_words, Answer}
 use Rattle.tables.specs.Checking.{Stops}
 use Rattle.tables.specs.Forwards.{Refused}
-use Rattle.replays.specs.declared.Kind.{Kind}
-use Rattle.replays.specs.declared.Kind.TheVariants.{Reach, Cost}
+use Rattle.replays.specs.declared.kind.Kind.{Kind}
+use Rattle.replays.specs.declared.kind.Kind.TheVariants.{Reach, Cost}
 use Rattle.lines.specs.Lines.{table_lines, frame_line, emit_line}
+
+-- a text to which what is allowed to be said was added
+abbrev pub Adds : (List ℕ → Type 0) → List ℕ → List ℕ → Type 0
+Adds Said was is = (said : List ℕ) × Said said × (is ≡ was ++ said)
+
+-- a line for each emitted frame in these words
+abbrev pub emit_lines : List ℕ → List ℕ
+emit_lines ws = flat_map emit_line (first_chunks sent_length (length ws / sent_length) ws)
 
 -- what is said of one frame, by its words: the frame and each emitted frame, or the frame and why it is refused
 pub data FrameSaid (o : Ops) (rows : List Row) (room : ℕ) (ws : List ℕ) : List ℕ → Type 0 where

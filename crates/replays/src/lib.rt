@@ -1,162 +1,126 @@
 // Captured frames replayed through a table, and the record of what a switch would emit.
 #![tactic(auto)]
 
-ghost use Rattle.std.specs.Prelude.{◌≡◌, ℕ, ◌*◌, min, List, ◌++◌, length, IfOk, MatchResult, OnOk};
-ghost use Rattle.std.specs.List.{flat_map, AllByRecursion};
+ghost use Rattle.std.specs.Prelude.{◌≡◌, ℕ, ◌*◌, List, length, IfOk, OnOk, string_bytes, vec_len};
 ghost use Rattle.faults.specs.declared.layers.TableFault.TheVariants.{Illegal};
-ghost use Rattle.faults.specs.Lines.{refused_line};
-ghost use Rattle.format.specs.Fields.{fields};
+ghost use Rattle.weights.specs.Weights.{Ops};
 ghost use Rattle.tables.specs.Checking.{Stops};
-ghost use Rattle.tables.specs.Emits.{Sent, sent_length, sent_words};
-ghost use Rattle.tables.specs.Rows.{Row, LegalRows, LegalTable, table_words};
+ghost use Rattle.tables.specs.Emits.{sent_length};
+ghost use Rattle.tables.specs.Rows.{OfItsRows};
+ghost use Rattle.lines.specs.Lines.{table_lines};
 ghost use Rattle.replays.specs.Bytes.{words_of};
-ghost use Rattle.lines.specs.Lines.{emit_line, table_lines};
-ghost use Rattle.replays.specs.Replays.{FrameSaid, FramesSaid, Record, kind_ops};
+ghost use Rattle.replays.specs.Replays.{Adds, FrameSaid, FramesSaid, Record, kind_ops};
 
+mod emitted;
+mod kind;
 mod words;
 
-use faults::{Shown, TableFault, refused_line};
-use format::FIELDS;
-use lines::{push_line, push_table};
+use emitted::Emitted;
+use faults::{Shown, TableFault};
+use frames::WIDTH;
+pub use kind::{Kind, UnknownKind};
+use lines::{Line, Table};
 use std::alloc::{AllocError, Global};
-use tables::{CheckedTable, check_table};
+use std::fmt::Write;
+use tables::{CheckedTable, SENT_WORDS, check_table};
 use weights::{Cost, Reach, WeightKind};
 use words::read_words;
 
-const WIDTH: usize = FIELDS as usize;
-
-// An emitted frame has a weight word and a word for each field.
-const SENT_WORDS: usize = 1 + WIDTH;
-
-// The kinds of weights that a table can have.
-#[derive(Clone, Copy)]
-pub enum Kind {
-    Reach,
-    Cost,
+// Frames that go through a checked table one by one, and the record so far.
+#[derive(Drop)]
+struct Recorder<'a, K: WeightKind> {
+    table: CheckedTable<'a, K>,
+    // Room for what one frame becomes.
+    memory: Vec<u32>,
+    text: String,
 }
 
-// Appends a line for each emitted frame.
-fn push_emitted(text: &mut Vec<u8>, words: &[u32]) -> Result<(), AllocError>
-    ensures { OnOk result ((answer : List Sent) → AllByRecursion (λ x. length (sent_words x) ≡ sent_length) answer → words.now ≡ flat_map sent_words answer → text.new.items ≡ text.old.items ++ flat_map (λ x. emit_line (sent_words x)) answer) }
-{
-    let mut at = 0;
-    while words.len() - at >= SENT_WORDS {
-        push_line(text, b"emit", &words[at..at + SENT_WORDS])?;
-        at += SENT_WORDS;
+impl<'a, K: WeightKind> Recorder<'a, K> {
+    // The record begins with the table.
+    fn new(heap: Global, table: CheckedTable<'a, K>) -> Result<Self, AllocError>
+        ensures { IfOk result (λ r. (r.table.words ≡ table.entry.words) × (vec_len r.memory ≡ length table.entry.words.now * sent_length) × (string_bytes r.text ≡ table_lines table.entry.words.now)) }
+    {
+        let words = table.words();
+        // Each word of a table tells of one emission at most.
+        let Some(room) = words.len().checked_mul(SENT_WORDS) else {
+            return Err(AllocError);
+        };
+        Ok(Recorder {
+            table,
+            memory: vec![in heap; 0; room]?,
+            text: Table(words).to_string(heap)?,
+        })
     }
-    Ok(())
-}
 
-// Appends why something is refused.
-fn push_refusal(heap: Global, text: &mut Vec<u8>, shown: Shown) -> Result<(), AllocError>
-    ensures { OnOk result (text.new.items ≡ text.old.items ++ refused_line shown) }
-{
-    let line = refused_line(heap, shown)?;
-    text.extend_from_slice(&line)
-}
+    // Appends what becomes of one frame.
+    fn frame(&mut self, frame: &[u32]) -> Result<(), AllocError>
+        ensures same_table { self.new.table.words ≡ self.old.table.words }
+        ensures same_room { vec_len self.new.memory ≡ vec_len self.old.memory }
+        ensures text { OnOk result (OfItsRows K.WeightKind.ops self.old.table.words.now (λ rows. Adds (FrameSaid K.WeightKind.ops rows (vec_len self.old.memory) frame.now) (string_bytes self.old.text) (string_bytes self.new.text))) }
+    {
+        let line = Line {
+            title: "frame",
+            words: frame,
+        };
+        write!(self.text, "{line}")?;
+        match self.table.forward(frame, &mut self.memory) {
+            Ok(count) => write!(self.text, "{}", Emitted(&self.memory[..count])),
+            Err(fault) => write!(self.text, "{}", Shown::from(fault)),
+        }
+    }
 
-// Appends what becomes of one frame.
-fn push_frame<K: WeightKind>(
-    heap: Global,
-    text: &mut Vec<u8>,
-    table: &CheckedTable<'_, K>,
-    frame: &[u32],
-    memory: &mut [u32],
-) -> Result<(), AllocError>
-    requires { LegalTable K.WeightKind.ops table.now.words.now }
-    ensures { OnOk result ((rows : List Row) → LegalRows K.WeightKind.ops rows → table.now.words.now ≡ table_words rows → ((said : List ℕ) × FrameSaid K.WeightKind.ops rows (length memory.old) frame.now said × (text.new.items ≡ text.old.items ++ said))) }
-{
-    push_line(text, b"frame", frame)?;
-    match table.forward(frame, memory) {
-        Ok(count) => push_emitted(text, &memory[..count]),
-        Err(fault) => push_refusal(heap, text, fault.shown()),
+    // The record with what becomes of each frame.
+    fn frames(mut self, words: &[u32]) -> Result<String, AllocError>
+        ensures { IfOk result (λ s. OfItsRows K.WeightKind.ops self.entry.table.words.now (λ rows. Adds (FramesSaid K.WeightKind.ops rows (vec_len self.entry.memory) words.now) (string_bytes self.entry.text) (string_bytes s))) }
+    {
+        for frame in words.chunks(WIDTH) {
+            self.frame(frame)?;
+        }
+        Ok(self.text)
     }
 }
 
-// How many words the next frame takes where so many are left.
-fn frame_width(left: usize) -> usize
-    ensures { result ≡ min left fields }
-{
-    left.min(WIDTH)
-}
-
-// Appends what becomes of each frame.
-fn push_frames<K: WeightKind>(
-    heap: Global,
-    text: &mut Vec<u8>,
-    table: &CheckedTable<'_, K>,
-    words: &[u32],
-    memory: &mut [u32],
-) -> Result<(), AllocError>
-    requires { LegalTable K.WeightKind.ops table.now.words.now }
-    ensures { OnOk result ((rows : List Row) → LegalRows K.WeightKind.ops rows → table.now.words.now ≡ table_words rows → ((said : List ℕ) × FramesSaid K.WeightKind.ops rows (length memory.old) words.now said × (text.new.items ≡ text.old.items ++ said))) }
-{
-    let mut at = 0;
-    while at < words.len() {
-        let width = frame_width(words.len() - at);
-        push_frame(heap, text, table, &words[at..at + width], memory)?;
-        at += width;
-    }
-    Ok(())
-}
-
-// The record of a checked table, whose words these are, and of frames.
-fn replayed<K: WeightKind>(
-    heap: Global,
-    table: &CheckedTable<'_, K>,
-    words: &[u32],
-    frames: &[u32],
-) -> Result<Vec<u8>, AllocError>
-    requires { (LegalTable K.WeightKind.ops words.now) × (table.now.words.now ≡ words.now) }
-    ensures { IfOk result (λ v. Record K.WeightKind.ops words.now frames.now v.items) }
-{
-    // Each word of a table tells of one emission at most.
-    let Some(room) = words.len().checked_mul(SENT_WORDS) else {
-        return Err(AllocError);
-    };
-    let mut memory = vec![in heap; 0; room]?;
-    let mut text = Vec::new(heap);
-    push_table(&mut text, words)?;
-    push_frames(heap, &mut text, table, frames, &mut memory)?;
-    Ok(text)
-}
-
-// The record of frames and a table, whose words these are, by what its check said.
+// The record of a checked table and of frames.
 fn recorded<K: WeightKind>(
     heap: Global,
-    checked: Result<CheckedTable<'_, K>, TableFault>,
-    words: &[u32],
+    table: CheckedTable<'_, K>,
     frames: &[u32],
-) -> Result<Vec<u8>, AllocError>
-    requires { MatchResult checked (λ t. (t.words.now ≡ words.now) × LegalTable K.WeightKind.ops words.now) (λ e. elim e [ Illegal i ↦ Stops K.WeightKind.ops words.now i ]) }
-    ensures { IfOk result (λ v. Record K.WeightKind.ops words.now frames.now v.items) }
+) -> Result<String, AllocError>
+    ensures { IfOk result (λ s. Record K.WeightKind.ops table.entry.words.now frames.now (string_bytes s)) }
 {
-    match checked {
-        Ok(table) => replayed(heap, &table, words, frames),
-        Err(fault) => refused_line(heap, fault.shown()),
-    }
+    Recorder::new(heap, table)?.frames(frames)
 }
 
-// The record of frames that go through a table of a kind, both as words.
-fn replay_words(
+// The record of a table that is refused, whatever the frames.
+fn refused(heap: Global, fault: TableFault) -> Result<String, AllocError>
+    ensures { (o : Ops) (table frames : List ℕ) → elim fault [ Illegal i ↦ Stops o table i ] → IfOk result (λ s. Record o table frames (string_bytes s)) }
+{
+    Shown::from(fault).to_string(heap)
+}
+
+// The record of frames that go through a table of the kind K, both as words.
+fn replayed<K: WeightKind>(
     heap: Global,
-    kind: Kind,
     words: &[u32],
     frames: &[u32],
-) -> Result<Vec<u8>, AllocError>
-    ensures { IfOk result (λ v. Record (kind_ops kind) words.now frames.now v.items) }
+) -> Result<String, AllocError>
+    ensures { IfOk result (λ s. Record K.WeightKind.ops words.now frames.now (string_bytes s)) }
 {
-    match kind {
-        Kind::Reach => recorded(heap, check_table::<Reach>(words), words, frames),
-        Kind::Cost => recorded(heap, check_table::<Cost>(words), words, frames),
+    match check_table::<K>(words) {
+        Ok(table) => recorded(heap, table, frames),
+        Err(fault) => refused(heap, fault),
     }
 }
 
 // The record of frames that go through a table of a kind, both as bytes.
-pub fn replay(heap: Global, kind: Kind, table: &[u8], frames: &[u8]) -> Result<Vec<u8>, AllocError>
-    ensures { IfOk result (λ v. Record (kind_ops kind) (words_of table.now) (words_of frames.now) v.items) }
+pub fn replay(heap: Global, kind: Kind, table: &[u8], frames: &[u8]) -> Result<String, AllocError>
+    ensures { IfOk result (λ s. Record (kind_ops kind) (words_of table.now) (words_of frames.now) (string_bytes s)) }
 {
     let words = read_words(heap, table)?;
     let frame_words = read_words(heap, frames)?;
-    replay_words(heap, kind, &words, &frame_words)
+    // A kind of weights is a type and no value, a rule of the project: so the value picks the instance here.
+    match kind {
+        Kind::Reach => replayed::<Reach>(heap, &words, &frame_words),
+        Kind::Cost => replayed::<Cost>(heap, &words, &frame_words),
+    }
 }

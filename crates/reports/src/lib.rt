@@ -1,106 +1,92 @@
 // The record of a policy as a technician reads it.
 #![tactic(auto)]
 
-ghost use Rattle.std.specs.Prelude.{◌≡◌, ◌≤◌, ◌++◌, IfOk, decimal, OnOk};
-ghost use Rattle.std.specs.List.{flat_map};
-ghost use Rattle.format.specs.Fields.{field_name};
-ghost use Rattle.reports.specs.Lines.{kind_name, details, word_said, word_line, accepted_record};
+ghost use Rattle.std.specs.Prelude.{◌≡◌, IfOk, Some, string_bytes};
+ghost use Rattle.reports.specs.Lines.{word_said, word_line, accepted_record};
 ghost use Rattle.reports.specs.Reports.{Tells};
 
-use faults::refused_line;
-use format::{WORDS_LIMIT, Word, field_name};
-use numerals::{push_decimal, push_hex, push_number};
+use faults::Shown;
+use format::{PolicyKind, WORDS_LIMIT, Word, field_name};
+use numerals::{Decimal, Hex, write_each};
 use policy::read_policy;
 use std::alloc::{AllocError, Global};
+use std::fmt;
 
-fn kind_name(kind: u32) -> &'static [u8]
-    ensures { result.now ≡ kind_name kind }
-{
-    match kind {
-        0 => b"drop",
-        1 => b"pass",
-        2 => b"test ",
-        3 => b"set ",
-        4 => b"cost ",
-        5 => b"not",
-        6 => b"union",
-        7 => b"sequence",
-        8 => b"star",
-        _ => b"unknown",
+// What a word says, to the end of its line.
+#[derive(Clone, Copy)]
+struct Said(u32);
+
+impl fmt::Display for Said {
+    ghost output = { λ w. Some (word_said w.0) };
+
+    fn fmt<W: fmt::Write>(&self, f: &mut fmt::Formatter<W>) -> fmt::Result {
+        let word = Word::from(self.0);
+        let name = field_name(word.field);
+        let value = Decimal(word.value as u64);
+        match PolicyKind::try_from(word.kind) {
+            Ok(PolicyKind::Drop) => writeln!(f, " drop"),
+            Ok(PolicyKind::Pass) => writeln!(f, " pass"),
+            Ok(PolicyKind::Test) => writeln!(f, " test {name}={value}"),
+            Ok(PolicyKind::Set) => writeln!(f, " set {name}:={value}"),
+            Ok(PolicyKind::Cost) => writeln!(f, " cost {value}"),
+            Ok(PolicyKind::Not) => writeln!(f, " not"),
+            Ok(PolicyKind::Union) => writeln!(f, " union"),
+            Ok(PolicyKind::Sequence) => writeln!(f, " sequence"),
+            Ok(PolicyKind::Star) => writeln!(f, " star"),
+            Err(_) => writeln!(f, " unknown"),
+        }
     }
 }
 
-// Appends a field, a sign and a value, as `pt=3`.
-fn push_setting(out: &mut Vec<u8>, word: Word, sign: &[u8]) -> Result<(), AllocError>
-    ensures { OnOk result (out.new.items ≡ out.old.items ++ (field_name word.field ++ (sign.now ++ decimal word.value))) }
-{
-    out.extend_from_slice(field_name(word.field))?;
-    out.extend_from_slice(sign)?;
-    push_decimal(out, word.value as u64)?;
-    Ok(())
-}
+// A line for a word: its digits, and what it says.
+#[derive(Clone, Copy)]
+struct WordLine(u32);
 
-fn push_details(out: &mut Vec<u8>, bits: u32) -> Result<(), AllocError>
-    ensures { OnOk result (out.new.items ≡ out.old.items ++ details bits) }
-{
-    let word = Word::split(bits);
-    match word.kind {
-        2 => push_setting(out, word, b"="),
-        3 => push_setting(out, word, b":="),
-        4 => push_decimal(out, word.value as u64),
-        _ => Ok(()),
+// Written out, as in `lines`: the repository's own macros may write no impl.
+impl From<u32> for WordLine {
+    ghost from_gives = { λ bits w. w.0 ≡ bits };
+
+    fn from(bits: u32) -> WordLine {
+        WordLine(bits)
     }
 }
 
-// Appends what a word says, to the end of its line.
-fn push_said(out: &mut Vec<u8>, bits: u32) -> Result<(), AllocError>
-    ensures { OnOk result (out.new.items ≡ out.old.items ++ word_said bits) }
-{
-    out.push(b' ')?;
-    out.extend_from_slice(kind_name(Word::split(bits).kind))?;
-    push_details(out, bits)?;
-    out.push(b'\n')?;
-    Ok(())
-}
+impl fmt::Display for WordLine {
+    ghost output = { λ w. Some (word_line w.0) };
 
-fn push_word(out: &mut Vec<u8>, bits: u32) -> Result<(), AllocError>
-    ensures { OnOk result (out.new.items ≡ out.old.items ++ word_line bits) }
-{
-    out.extend_from_slice(b"word ")?;
-    push_hex(out, bits)?;
-    push_said(out, bits)?;
-    Ok(())
-}
-
-fn push_words(out: &mut Vec<u8>, words: &[u32]) -> Result<(), AllocError>
-    ensures { OnOk result (out.new.items ≡ out.old.items ++ flat_map word_line words.now) }
-{
-    for word in words {
-        push_word(out, *word)?;
+    fn fmt<W: fmt::Write>(&self, f: &mut fmt::Formatter<W>) -> fmt::Result {
+        write!(f, "word {}{}", Hex(self.0), Said(self.0))
     }
-    Ok(())
 }
 
-fn accepted(heap: Global, text: &[u8], words: &[u32]) -> Result<Vec<u8>, AllocError>
-    ensures { IfOk result (λ v. v.items ≡ accepted_record text.now words.now) }
-{
-    let mut record = Vec::new(heap);
-    push_number(&mut record, b"read ", text.len() as u64, b" bytes\n")?;
-    push_words(&mut record, words)?;
-    push_number(&mut record, b"accepted ", words.len() as u64, b" words\n")?;
-    Ok(record)
+// The record of an accepted text.
+#[derive(Clone, Copy)]
+struct Accepted<'a> {
+    text: &'a [u8],
+    words: &'a [u32],
+}
+
+impl fmt::Display for Accepted<'_> {
+    ghost output = { λ a. Some (accepted_record a.text.now a.words.now) };
+
+    fn fmt<W: fmt::Write>(&self, f: &mut fmt::Formatter<W>) -> fmt::Result {
+        writeln!(f, "read {} bytes", Decimal(self.text.len() as u64))?;
+        write_each::<_, WordLine>(f, self.words)?;
+        writeln!(f, "accepted {} words", Decimal(self.words.len() as u64))
+    }
 }
 
 // The record of a policy text: what it says word by word, or just why it is refused.
-pub fn report(heap: Global, text: &[u8]) -> Result<Vec<u8>, AllocError>
-    ensures { IfOk result (λ v. Tells text.now v.items) }
+pub fn report(heap: Global, text: &[u8]) -> Result<String, AllocError>
+    ensures { IfOk result (λ s. Tells text.now (string_bytes s)) }
 {
     let mut memory = [0; WORDS_LIMIT];
     match read_policy(text, &mut memory) {
-        Ok(policy) => accepted(heap, text, policy.words()),
-        Err(fault) => {
-            let line = refused_line(heap, fault.shown())?;
-            Ok(line)
+        Ok(policy) => Accepted {
+            text,
+            words: policy.words(),
         }
+        .to_string(heap),
+        Err(fault) => Shown::from(fault).to_string(heap),
     }
 }

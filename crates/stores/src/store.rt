@@ -1,5 +1,5 @@
 // A store of records of one kind, in memory that it is lent.
-ghost use Rattle.std.specs.Prelude.{◌≡◌, ℕ, ◌+◌, ◌<◌, ◌≤◌, min, length, take, Some, MatchOption, MatchResult, ◌≢◌, slice_set};
+ghost use Rattle.std.specs.Prelude.{◌≡◌, ℕ, ◌+◌, ◌<◌, ◌≤◌, length, MatchResult, MatchOption, ◌≢◌, Some, slice_set};
 ghost use Rattle.std.specs.List.{slice_get};
 ghost use Rattle.faults.specs.declared.layers.StoreFault.TheVariants.{Full};
 ghost use Rattle.stores.specs.Numbers.{record_at, held, room, numbers_limit, Distinct, Entered, Refused};
@@ -11,43 +11,18 @@ use records::Record;
 // A word can number this many records.
 const NUMBERS_LIMIT: u32 = VALUE_END - 1;
 
-// The records are in the first slots, as many as a count says that is kept elsewhere.
+// The records are in the first slots, as many as a count says. By a rule of the project the slots are lent and the count is kept
+// elsewhere.
 #[derive(Drop)]
 pub struct Store<'a, R> {
     pub slots: &'a mut [R],
 }
 
-// Where the wanted record stands among the first `count` slots.
-fn find<R: Record>(slots: &[R], count: usize, wanted: R) -> Option<usize>
-    requires { count ≤ length slots.now }
-    ensures { MatchOption result ((k : ℕ) → k < count → slice_get slots.now k ≢ Some wanted) (λ i. (i < count) × (slice_get slots.now i ≡ Some wanted)) }
+// Where the wanted record stands. A function of its own: within `enter` the check did not prove what `position` says.
+fn find<R: Record>(records: &[R], wanted: R) -> Option<usize>
+    ensures { MatchOption result ((k : ℕ) → slice_get records.now k ≢ Some wanted) (λ i. slice_get records.now i ≡ Some wanted) }
 {
-    for place in 0..count {
-        let slot = slots[place];
-        if slot.same(&wanted) {
-            return Some(place);
-        }
-    }
-    None
-}
-
-// The record at this place among the first `count` slots.
-fn read<R: Record>(slots: &[R], count: usize, place: usize) -> Option<R>
-    ensures { result ≡ slice_get (take count slots.now) place }
-{
-    if place < count && place < slots.len() {
-        let found = slots[place];
-        Some(found)
-    } else {
-        None
-    }
-}
-
-// How many of the slots hold records.
-fn in_use(count: u32, slots: usize) -> usize
-    ensures { result ≡ min (min count numbers_limit) slots }
-{
-    (count.min(NUMBERS_LIMIT) as usize).min(slots)
+    records.iter().position(|record| record.same(&wanted))
 }
 
 // The number of the record at a place.
@@ -60,43 +35,37 @@ fn number_at(place: usize) -> Amount
     }
 }
 
-// Writes a record behind the last, if there is room.
-fn add<R: Record>(slots: &mut [R], count: &mut u32, entry: R) -> Result<Amount, StoreFault>
-    ensures added { MatchResult result (λ n. (count.old < numbers_limit) × (count.old < length slots.old) × (n.number ≡ count.old + 1)) (λ f. (f ≡ Full) × (room slots.old ≤ count.old)) }
-    ensures counted { MatchResult result (λ _. count.new ≡ count.old + 1) (λ _. count.new ≡ count.old) }
-    ensures written { MatchResult result (λ _. slots.new ≡ slice_set slots.old count.old entry) (λ _. slots.new ≡ slots.old) }
-{
-    let next = *count as usize;
-    if *count >= NUMBERS_LIMIT || next >= slots.len() {
-        return Err(StoreFault::Full);
-    }
-    slots[next] = entry;
-    *count += 1;
-    Ok(number_at(next))
-}
-
-fn enter<R: Record>(slots: &mut [R], count: &mut u32, entry: R) -> Result<Amount, StoreFault>
-    ensures answer { MatchResult result (λ n. Entered count.old (held count.old slots.old) entry n.number count.new (held count.new slots.new)) (λ f. (f ≡ Full) × Refused count.old slots.old entry count.new slots.new) }
-    ensures stays { held count.old slots.new ≡ held count.old slots.old }
-    ensures distinct { Distinct (held count.old slots.old) → Distinct (held count.new slots.new) }
-{
-    let places = in_use(*count, slots.len());
-    if let Some(place) = find(slots, places, entry) {
-        return Ok(number_at(place));
-    }
-    add(slots, count, entry)
-}
-
 impl<R: Record> Store<'_, R> {
+    // The records in store.
+    fn held(&self, count: u32) -> &[R]
+        ensures { result.now ≡ held count self.now.slots.now }
+    {
+        let count = (count.min(NUMBERS_LIMIT) as usize).min(self.slots.len());
+        &self.slots[..count]
+    }
+
     // The record under a number.
     pub fn get(&self, count: u32, number: Amount) -> Option<R>
         ensures { result ≡ record_at (held count self.now.slots.now) number.number }
     {
-        if number.number == 0 {
-            return None;
+        let place = number.number.checked_sub(1)?;
+        self.held(count).get(place as usize).copied()
+    }
+
+    // Writes a record behind the last, if there is room.
+    fn add(&mut self, count: &mut u32, entry: R) -> Result<Amount, StoreFault>
+        ensures added { MatchResult result (λ n. (count.old < numbers_limit) × (count.old < length self.old.slots.now) × (n.number ≡ count.old + 1)) (λ f. (f ≡ Full) × (room self.old.slots.now ≤ count.old)) }
+        ensures counted { MatchResult result (λ _. count.new ≡ count.old + 1) (λ _. count.new ≡ count.old) }
+        ensures written { MatchResult result (λ _. self.new.slots.now ≡ slice_set self.old.slots.now count.old entry) (λ _. self.new.slots.now ≡ self.old.slots.now) }
+        ensures lender { self.new.slots.ghost_name ≡ self.old.slots.ghost_name }
+    {
+        let next = *count as usize;
+        if *count >= NUMBERS_LIMIT || next >= self.slots.len() {
+            return Err(StoreFault::Full);
         }
-        let places = in_use(count, self.slots.len());
-        read(self.slots, places, number.number as usize - 1)
+        self.slots[next] = entry;
+        *count += 1;
+        Ok(number_at(next))
     }
 
     // The number of a record: its own where it is in store, else the next, behind the last. Without room nothing changes.
@@ -107,6 +76,9 @@ impl<R: Record> Store<'_, R> {
         ensures size { length self.new.slots.now ≡ length self.old.slots.now }
         ensures lender { self.new.slots.ghost_name ≡ self.old.slots.ghost_name }
     {
-        enter(self.slots, count, entry)
+        match find(self.held(*count), entry) {
+            Some(place) => Ok(number_at(place)),
+            None => self.add(count, entry),
+        }
     }
 }

@@ -1,29 +1,22 @@
 -- What a row sends is what the table emits.
-use Rattle.std.proofs.Common.{◌≡◌, ℕ, suc, ◌≤◌, Bool, true, false, cond, ◌⊎◌, List, [], ◌∷◌, ◌++◌, map, length, take, drop, set, IfOk, Ok, Err, Result, sym, refl, ap, ◌∙◌, subst, inl, inr, arith, MatchResult}
+use Rattle.std.proofs.Common.{◌≡◌, ℕ, suc, Bool, true, false, cond, ◌⊎◌, List, [], ◌∷◌, ◌++◌, map, length, take, drop, set, Ok, Err, Result, sym, refl, ap, ◌∙◌, subst, inl, inr, arith, MatchResult}
 use Rattle.std.specs.List.{flat_map, AllByRecursion}
+use Rattle.std.proofs.ByRecursion.{All-weaker}
 use Rattle.std.proofs.lemmas.List.{take_at, drop_at}
 use Rattle.std.proofs.lemmas.Bool.{cases_Bool, true≢false, cond-true, cond-false, eq-eqb, ne_eqb}
 use Rattle.format.specs.Words.{word, kind_of, value_of}
 use Rattle.faults.specs.declared.layers.FrameFault.{FrameFault}
-use Rattle.faults.specs.declared.layers.FrameFault.TheVariants.{Length, BadWord, NoRoom}
-use Rattle.frames.specs.Frames.{before, FrameValues, NoFrame, frame_words}
+use Rattle.faults.specs.declared.layers.FrameFault.TheVariants.{NoRoom}
+use Rattle.frames.specs.Frames.{before, FrameValues, frame_words}
 use Rattle.weights.specs.Weights.{Ops, Laws, Weight}
 use Rattle.tables.specs.Rows.{Pair, Emission, Row, emission_words, row_words, LegalPairs, LegalEmission, LegalRow, LegalRows}
 use Rattle.tables.specs.Emits.{Sent, sent_words, holds, replaced, same, joins, emits, In, Ascending, Answer}
 use Rattle.tables.specs.Scans.{applied, sends, weight_in, RowSent, RowFull}
 use Rattle.tables.specs.Forwards.{Decides, Written, Answered, Overfull, Refused}
-use Rattle.tables.proofs.Parts.{parts_of_word, few_pairs, fit_pair}
+use Rattle.tables.proofs.Parts.{match_words, set_words, parts_of_word, few_pairs, fit_pair}
+use Rattle.tables.proofs.Rows.{pair_kinds}
 use Rattle.tables.proofs.Scans.{same_decides, put_some}
-use Rattle.tables.proofs.Order.{irreflexive, asymmetric}
-
-abbrev frames_of : List Sent → List (List ℕ)
-frames_of xs = map (λ x. x.frame) xs
-
-abbrev match_words : List Pair → List ℕ
-match_words ps = map (λ p. word 11 p.0 p.1) ps
-
-abbrev set_words : List Pair → List ℕ
-set_words ps = map (λ p. word 13 p.0 p.1) ps
+use Rattle.tables.proofs.Order.{frames_of, irreflexive, asymmetric}
 
 -- the frame and the weight of an emission
 send : List ℕ → Emission → Sent
@@ -35,9 +28,7 @@ sends_past [] ys s a = refl
 sends_past (x ∷ xs) ys s a = cond-false _ _ _ (ne_eqb _ _ a.0) ∙ sends_past xs ys s a.1
 
 other_kinds : (k f : ℕ) (ps : List Pair) → (k ≡ 12 → ⊥) → LegalPairs f ps → AllByRecursion (λ w. kind_of w ≡ 12 → ⊥) (map (λ p. word k p.0 p.1) ps)
-other_kinds k f [] n l = tt
-other_kinds k f (p ∷ ps) n l =
-    ((λ e. n (sym (parts_of_word k p.0 p.1 (fit_pair f p ps l)).0 ∙ e)), other_kinds k (suc p.0) ps n l.3)
+other_kinds k f ps n l = All-weaker (λ w. kind_of w ≡ k) _ (λ w h e. n (sym h ∙ e)) _ (pair_kinds k f ps l)
 
 -- set words, and then none, make the frame of the sets
 applied_sets : (f : ℕ) (ps : List Pair) (ys s : List ℕ) → LegalPairs f ps → ((s : List ℕ) → applied ys s ≡ s) → applied (set_words ps ++ ys) s ≡ replaced ps s
@@ -334,28 +325,3 @@ row_answered laws rows legal s table found ws was is (Ok n) v e d h =
 row_answered {o} laws rows legal s table found ws was is (Err y) v e d h =
     subst (λ (z : FrameFault). Refused o rows ws (length was) z) (sym h.0)
     (s, v, e, row_overfull laws rows legal s table found d (length was) h.1)
-
-refused_frame : (o : Ops) (rows : List Row) (ws : List ℕ) (room : ℕ) (e : FrameFault) → NoFrame e ws → Refused o rows ws room e
-refused_frame o rows ws room Length h = h
-refused_frame o rows ws room (BadWord i) h = h
-refused_frame o rows ws room NoRoom h = absurd h
-
-pub frame_refused :
-    (P : ℕ → Type 0) (o : Ops) (rows : List Row) (ws : List ℕ) (room : ℕ) (r : Result ℕ FrameFault) (y z : FrameFault) →
-    r ≡ Err y →
-    y ≡ z →
-    NoFrame z ws →
-    MatchResult r P (λ e. Refused o rows ws room e)
-frame_refused P o rows ws room r y z e i h =
-    subst (λ (x : Result ℕ FrameFault). MatchResult x P (λ e. Refused o rows ws room e)) (sym (e ∙ ap Err i)) (refused_frame o rows ws room z h)
-
--- an answer lies within the memory
-pub sent_within :
-    (o : Ops) (xs : List Sent) (was is : List ℕ) (r : Result ℕ FrameFault) →
-    MatchResult r (λ n. RowSent o xs was n is) (λ e. (e ≡ NoRoom) × RowFull xs (length was)) →
-    IfOk r (λ n. n ≤ length was)
-sent_within o xs was is (Ok n) h = h.fits
-sent_within o xs was is (Err y) h = tt
-
-pub refused_within : (m : ℕ) (r : Result ℕ FrameFault) (y : FrameFault) → r ≡ Err y → IfOk r (λ n. n ≤ m)
-refused_within m r y e = subst (λ (x : Result ℕ FrameFault). IfOk x (λ n. n ≤ m)) (sym e) tt

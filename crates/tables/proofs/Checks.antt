@@ -1,24 +1,23 @@
 -- What each word of a table leads to.
-use Rattle.std.proofs.Common.{◌≡◌, ℕ, zero, suc, ◌+◌, ◌-◌, ◌<◌, ◌≤◌, Bool, true, false, ◌⊎◌, List, [], ◌∷◌, ◌++◌, map, length, sym, refl, ap, ◌∙◌, subst, inl, inr, append_assoc, arith}
+use Rattle.std.proofs.Common.{◌≡◌, ℕ, zero, suc, ◌+◌, ◌-◌, ◌<◌, ◌≤◌, ◌⊎◌, List, [], ◌∷◌, ◌++◌, length, Option, Some, None, sym, refl, ap, ◌∙◌, subst, ◌≢◌, inl, inr, append_assoc, arith}
+use Rattle.std.specs.Bool.{⊤}
 use Rattle.std.specs.List.{flat_map, AllByRecursion}
 use Rattle.format.specs.Fields.{fields, LegalValue}
 use Rattle.format.specs.Words.{word, value_end, kind_of}
 use Rattle.weights.specs.Weights.{Ops, Laws, Weight}
+use Rattle.tables.specs.declared.state.Checker.{Checker}
+use Rattle.tables.specs.declared.kind.TableKind.{TableKind}
+use Rattle.tables.specs.declared.kind.TableKind.TheVariants.{Head as HeadWord, Match as MatchWord, Weight as WeightWord, Set as SetWord, End as EndWord}
 use Rattle.tables.specs.declared.state.State.{State}
 use Rattle.tables.specs.declared.state.State.TheVariants.{Head, Matches, Emissions, Sets, End}
+use Rattle.tables.specs.Kinds.{number_of}
 use Rattle.tables.specs.Rows.{Pair, Emission, Row, emission_words, row_words, LegalPairs, LegalEmission, LegalRow}
 use Rattle.tables.specs.Checking.{RowsRest, EmissionsRest, MatchesRest, SetsRest, Rest, Open, Takes, next_due}
-use Rattle.tables.proofs.Parts.{Fit, same_parts, parts_of_word, head_same, tail_same, few_pairs, fit_pair}
+use Rattle.tables.proofs.Parts.{Fit, match_words, set_words, same_parts, parts_of_word, head_same, tail_same, few_pairs, fit_pair}
 
 -- the words of rows and the end, from the first row
 abbrev rows_and_end : ℕ → List Row → List ℕ
 rows_and_end n rows = flat_map row_words rows ++ (word 14 0 (n + length rows) ∷ [])
-
-abbrev match_words : List Pair → List ℕ
-match_words ps = map (λ p. word 11 p.0 p.1) ps
-
-abbrev set_words : List Pair → List ℕ
-set_words ps = map (λ p. word 13 p.0 p.1) ps
 
 pub regroup : (a b c d : List ℕ) → ((a ++ b) ++ c) ++ d ≡ a ++ (b ++ (c ++ d))
 regroup a b c d = simp append_assoc
@@ -543,6 +542,18 @@ Expected (Emissions due) k = k ≡ 12
 Expected (Sets f due) k = (k ≡ 13) ⊎ ((k ≡ 12) ⊎ ((due ≡ 0) × ((k ≡ 10) ⊎ (k ≡ 14))))
 Expected End k = ⊥
 
+-- a number that no kind has is not the next word's kind
+pub no_kind : (s : State) (n : ℕ) → ((k : TableKind) → number_of k ≢ n) → Expected s n → ⊥
+no_kind Head n no_such (inl e) = no_such HeadWord (sym e)
+no_kind Head n no_such (inr e) = no_such EndWord (sym e)
+no_kind (Matches f due m) n no_such e = no_such MatchWord (sym e)
+no_kind (Emissions due) n no_such e = no_such WeightWord (sym e)
+no_kind (Sets f due) n no_such (inl e) = no_such SetWord (sym e)
+no_kind (Sets f due) n no_such (inr (inl e)) = no_such WeightWord (sym e)
+no_kind (Sets f due) n no_such (inr (inr (z, inl e))) = no_such HeadWord (sym e)
+no_kind (Sets f due) n no_such (inr (inr (z, inr e))) = no_such EndWord (sym e)
+no_kind End n no_such e = e
+
 module _ {o : Ops} (laws : Laws o) where
   expected_emission :
       (n due w : ℕ) (rest : List ℕ) →
@@ -551,7 +562,7 @@ module _ {o : Ops} (laws : Laws o) where
   expected_emission n due w rest r =
       elim (emissions_first laws n due w rest r) [ inl a ↦ inl a.0 | inr a ↦ inr (a.0, rows_first {o = o} n w rest a.1) ]
 
-  pub expected : (n : ℕ) (s : State) (w : ℕ) (rest : List ℕ) → Open n s → Rest o n s (w ∷ rest) → Expected s (kind_of w)
+  expected : (n : ℕ) (s : State) (w : ℕ) (rest : List ℕ) → Open n s → Rest o n s (w ∷ rest) → Expected s (kind_of w)
   expected n Head w rest h r = rows_first {o = o} n w rest r
   expected n (Matches f due m) w rest h r = matches_first {o = o} n f due m w rest h.1 r
   expected n (Emissions due) w rest h r =
@@ -560,105 +571,98 @@ module _ {o : Ops} (laws : Laws o) where
       elim (sets_first {o = o} n f due w rest r) [ inl a ↦ inl a | inr a ↦ inr (expected_emission n due w rest a) ]
   expected n End w rest h r = let z : 0 ≡ suc (length rest) = sym (ap length r) in omega arith
 
+  pub unexpected : (n : ℕ) (s : State) (w : ℕ) → Open n s → (Expected s (kind_of w) → ⊥) → (rest : List ℕ) → Rest o n s (w ∷ rest) → ⊥
+  unexpected n s w h other rest r = other (expected n s w rest h r)
+
 -- two states are completed alike by what begins with a word
 takes_like :
-    (o : Ops) (n : ℕ) (s u : State) (w : ℕ) (r : Bool) (m : ℕ) (t : State) →
+    (o : Ops) (n : ℕ) (s u : State) (w : ℕ) (r : Option Checker) →
     ((rest : List ℕ) → Rest o n s (w ∷ rest) → Rest o n u (w ∷ rest)) →
     ((rest : List ℕ) → Rest o n u (w ∷ rest) → Rest o n s (w ∷ rest)) →
-    Takes o n u w r m t →
-    Takes o n s w r m t
-takes_like o n s u w true m t to from h = (h.0, (λ rest x. h.1 rest (to rest x)), (λ rest x. from rest (h.2 rest x)))
-takes_like o n s u w false m t to from h = λ rest x. h rest (to rest x)
+    Takes o n u w r →
+    Takes o n s w r
+takes_like o n s u w (Some c) to from h = (h.0, (λ rest x. h.1 rest (to rest x)), (λ rest x. from rest (h.2 rest x)))
+takes_like o n s u w None to from h = λ rest x. h rest (to rest x)
 
--- after an emission that is not the last, as before one
-pub takes_more :
-    (o : Ops) (n f due w : ℕ) (r : Bool) (m : ℕ) (t : State) →
-    kind_of w ≡ 12 →
-    Takes o n (Emissions due) w r m t →
-    Takes o n (Sets f due) w r m t
-takes_more o n f due w r m t k =
-    takes_like o n (Sets f due) (Emissions due) w r m t
-    (λ rest x. elim (sets_first {o = o} n f due w rest x) [ inl a ↦ absurd (omega (arith, k, a)) | inr a ↦ a ])
-    (λ rest x. no_sets {o = o} n f due (w ∷ rest) x)
+-- a row or the end may come
+abbrev pub RowMayCome : State → Type 0
+RowMayCome Head = ⊤
+RowMayCome (Sets f due) = due ≡ 0
+RowMayCome (Matches f due m) = ⊥
+RowMayCome (Emissions due) = ⊥
+RowMayCome End = ⊥
 
--- after the last emission, as before a row
-pub takes_next :
-    (o : Ops) (n f w : ℕ) (r : Bool) (m : ℕ) (t : State) →
-    (kind_of w ≡ 13 → ⊥) →
-    Takes o n Head w r m t →
-    Takes o n (Sets f 0) w r m t
-takes_next o n f w r m t k =
-    takes_like o n (Sets f 0) Head w r m t
-    (λ rest x. elim (sets_first {o = o} n f 0 w rest x) [ inl a ↦ absurd (k a) | inr a ↦ no_emissions {o = o} n (w ∷ rest) a ])
-    (λ rest x. no_sets {o = o} n f 0 (w ∷ rest) (only_rows {o = o} n (w ∷ rest) x))
+-- so many emissions are due
+abbrev pub EmissionsDue : State → ℕ → Type 0
+EmissionsDue (Emissions due) d = due ≡ d
+EmissionsDue (Sets f due) d = due ≡ d
+EmissionsDue Head d = ⊥
+EmissionsDue (Matches f due m) d = ⊥
+EmissionsDue End d = ⊥
 
--- a step from the state and the word that the checker has
-pub takes_at :
-    (o : Ops) (n : ℕ) (s u : State) (w k f v : ℕ) (r : Bool) (m : ℕ) (t : State) →
-    s ≡ u →
-    w ≡ word k f v →
-    Takes o n u (word k f v) r m t →
-    Takes o n s w r m t
-takes_at o n s u w k f v r m t e i h =
-    subst (λ (x : State). Takes o n x w r m t) (sym e) (subst (λ (x : ℕ). Takes o n u x r m t) (sym i) h)
+module _ (o : Ops) (n : ℕ) where
+  -- a word that is taken or refused in one state is so in another
+  pub takes_at : (s u : State) (w x : ℕ) (r : Option Checker) → Takes o n u x r → s ≡ u → w ≡ x → Takes o n s w r
+  takes_at s u w x r h e i = subst (λ (t : State). Takes o n t w r) (sym e) (subst (λ (y : ℕ). Takes o n u y r) (sym i) h)
 
-pub takes_next_at :
-    (o : Ops) (n : ℕ) (s : State) (f due w k g v : ℕ) (r : Bool) (m : ℕ) (t : State) →
-    s ≡ Sets f due →
-    due ≡ 0 →
-    w ≡ word k g v →
-    (kind_of w ≡ 13 → ⊥) →
-    Takes o n Head (word k g v) r m t →
-    Takes o n s w r m t
-takes_next_at o n s f due w k g v r m t e z i other h =
-    subst (λ (x : State). Takes o n x w r m t) (sym (e ∙ ap (Sets f) z))
-    (takes_next o n f w r m t other (subst (λ (x : ℕ). Takes o n Head x r m t) (sym i) h))
+  -- after the last emission, as before a row
+  pub takes_row :
+      (s : State) (w x : ℕ) (r : Option Checker) →
+      Takes o n Head x r →
+      RowMayCome s →
+      w ≡ x →
+      (kind_of w ≡ 13 → ⊥) →
+      Takes o n s w r
+  takes_row Head w x r h m i other = takes_at Head Head w x r h refl i
+  takes_row (Matches f due b) w x r h m i other = elim m [ ]
+  takes_row (Emissions due) w x r h m i other = elim m [ ]
+  takes_row (Sets f due) w x r h m i other =
+      subst (λ (d : ℕ). Takes o n (Sets f d) w r) (sym m)
+      (takes_like o n (Sets f 0) Head w r
+      (λ rest y. elim (sets_first {o = o} n f 0 w rest y) [ inl a ↦ absurd (other a) | inr a ↦ no_emissions {o = o} n (w ∷ rest) a ])
+      (λ rest y. no_sets {o = o} n f 0 (w ∷ rest) (only_rows {o = o} n (w ∷ rest) y))
+      (takes_at Head Head w x r h refl i))
+  takes_row End w x r h m i other = elim m [ ]
 
-pub takes_more_at :
-    (o : Ops) (n : ℕ) (s : State) (f due w g v : ℕ) (r : Bool) (m : ℕ) (t : State) →
-    s ≡ Sets f due →
-    w ≡ word 12 g v →
-    kind_of w ≡ 12 →
-    Takes o n (Emissions due) (word 12 g v) r m t →
-    Takes o n s w r m t
-takes_more_at o n s f due w g v r m t e i k h =
-    subst (λ (x : State). Takes o n x w r m t) (sym e)
-    (takes_more o n f due w r m t k (subst (λ (x : ℕ). Takes o n (Emissions due) x r m t) (sym i) h))
+  -- after an emission that is not the last, as before one
+  pub takes_weight :
+      (s : State) (due w x : ℕ) (r : Option Checker) →
+      Takes o n (Emissions due) x r →
+      EmissionsDue s due →
+      w ≡ x →
+      (kind_of w ≡ 13 → ⊥) →
+      Takes o n s w r
+  takes_weight Head due w x r h m i other = elim m [ ]
+  takes_weight (Matches f d b) due w x r h m i other = elim m [ ]
+  takes_weight (Emissions d) due w x r h m i other = takes_at (Emissions d) (Emissions due) w x r h (ap Emissions m) i
+  takes_weight (Sets f d) due w x r h m i other =
+      subst (λ (e : ℕ). Takes o n (Sets f e) w r) (sym m)
+      (takes_like o n (Sets f due) (Emissions due) w r
+      (λ rest y. elim (sets_first {o = o} n f due w rest y) [ inl a ↦ absurd (other a) | inr a ↦ a ])
+      (λ rest y. no_sets {o = o} n f due (w ∷ rest) y)
+      (takes_at (Emissions due) (Emissions due) w x r h refl i))
+  takes_weight End due w x r h m i other = elim m [ ]
 
--- a refusal
-pub takes_none :
-    (o : Ops) (n : ℕ) (s : State) (w : ℕ) (r : Bool) (m : ℕ) (t : State) →
-    r ≡ false →
-    ((rest : List ℕ) → Rest o n s (w ∷ rest) → ⊥) →
-    Takes o n s w r m t
-takes_none o n s w r m t e h = subst (λ (x : Bool). Takes o n s w x m t) (sym e) h
+  -- a refusal
+  pub takes_none : (s : State) (w : ℕ) (r : Option Checker) → r ≡ None → ((rest : List ℕ) → Rest o n s (w ∷ rest) → ⊥) → Takes o n s w r
+  takes_none s w r e h = subst (λ (x : Option Checker). Takes o n s w x) (sym e) h
 
-pub no_match :
-    (o : Ops) (n : ℕ) (s : State) (f due m w g v : ℕ) (rest : List ℕ) →
-    s ≡ Matches f due m →
-    w ≡ word 11 g v →
-    Fit g v →
-    Open n s →
-    (g < fields → LegalValue g v → ⊥) →
-    Rest o n s (w ∷ rest) →
-    ⊥
-no_match o n s f due m w g v rest e i fit h wrong r =
-    let p = subst (Open n) e h in
-    let z =
-    matched {o = o} n f due m g v rest fit p.1
-    (subst (λ (x : ℕ). MatchesRest o n f due m (x ∷ rest)) i (subst (λ (x : State). Rest o n x (w ∷ rest)) e r)) in
-    wrong (omega (arith, z.1, p.1)) z.2
+  pub no_match :
+      (f due m g v : ℕ) (r : Option Checker) →
+      r ≡ None →
+      (g < fields → LegalValue g v → ⊥) →
+      Fit g v →
+      0 < due →
+      Takes o n (Matches f due m) (word 11 g v) r
+  no_match f due m g v r e wrong fit some =
+      takes_none (Matches f due m) (word 11 g v) r e
+      (λ rest h. let z = matched {o = o} n f due m g v rest fit some h in wrong (omega (arith, z.1, some)) z.2)
 
-pub no_set :
-    (o : Ops) (laws : Laws o) (n : ℕ) (s : State) (f due w g v : ℕ) (rest : List ℕ) →
-    s ≡ Sets f due →
-    w ≡ word 13 g v →
-    Fit g v →
-    (g < fields → LegalValue g v → ⊥) →
-    Rest o n s (w ∷ rest) →
-    ⊥
-no_set o laws n s f due w g v rest e i fit wrong r =
-    let z =
-    setting laws n f due g v rest fit
-    (subst (λ (x : ℕ). SetsRest o n f due (x ∷ rest)) i (subst (λ (x : State). Rest o n x (w ∷ rest)) e r)) in
-    wrong z.1 z.2
+  pub no_set :
+      (laws : Laws o) (f due g v : ℕ) (r : Option Checker) →
+      r ≡ None →
+      (g < fields → LegalValue g v → ⊥) →
+      Fit g v →
+      Takes o n (Sets f due) (word 13 g v) r
+  no_set laws f due g v r e wrong fit =
+      takes_none (Sets f due) (word 13 g v) r e (λ rest h. let z = setting laws n f due g v rest fit h in wrong z.1 z.2)

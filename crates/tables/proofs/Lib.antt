@@ -1,6 +1,7 @@
 pub mod Parts
 pub mod Checks
 pub mod Reached
+pub mod Unique
 pub mod Scans
 pub mod Rows
 pub mod Order

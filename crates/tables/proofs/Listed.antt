@@ -1,17 +1,14 @@
 -- The frames that a row sends, up to a bound, as they are written one after another.
-use Rattle.std.proofs.Common.{◌≡◌, ℕ, suc, ◌+◌, ◌*◌, ◌<◌, ◌≤◌, true, false, ◌⊎◌, List, [], ◌∷◌, ◌++◌, map, length, take, drop, Some, None, Option, sym, refl, ap, ◌∙◌, subst, inl, inr, append_assoc, arith, length-append}
+use Rattle.std.proofs.Common.{◌≡◌, ℕ, ◌+◌, ◌*◌, ◌<◌, ◌≤◌, true, false, ◌⊎◌, List, [], ◌∷◌, ◌++◌, length, take, drop, Some, None, Option, sym, refl, ap, ◌∙◌, subst, inl, inr, append_assoc, arith, length-append}
 use Rattle.std.specs.List.{flat_map}
 use Rattle.std.proofs.lemmas.List.{take_at, drop_at, drop-drop, append-nil, map-append, length-map}
-use Rattle.std.proofs.lemmas.Bool.{cases_Bool, true≢false}
+use Rattle.std.proofs.lemmas.Bool.{cases_Bool}
 use Rattle.format.specs.Words.{value_of}
-use Rattle.frames.specs.Frames.{before, words_from, frame_words}
+use Rattle.frames.specs.Frames.{before}
 use Rattle.weights.specs.Weights.{Ops}
 use Rattle.tables.specs.Emits.{Sent, sent_words, In, Ascending}
-use Rattle.tables.specs.Scans.{weight_in, least, above, RowSent, RowFull}
-use Rattle.tables.proofs.Order.{irreflexive, asymmetric, connected, above_between, least_found, Found}
-
-abbrev frames_of : List Sent → List (List ℕ)
-frames_of xs = map (λ x. x.frame) xs
+use Rattle.tables.specs.Scans.{weight_in, above, IsNext, Next, RowSent, RowFull}
+use Rattle.tables.proofs.Order.{frames_of, irreflexive, asymmetric, connected, above_between}
 
 -- the frames not above the bound are written
 pub record Listed (o : Ops) (xs : List Sent) (last : Option (List ℕ)) (was : List ℕ) (n : ℕ) (is : List ℕ) : Type 0 where
@@ -25,20 +22,6 @@ pub record Listed (o : Ops) (xs : List Sent) (last : Option (List ℕ)) (was : L
   pub count : n ≡ length (flat_map sent_words list)
   pub written : is ≡ flat_map sent_words list ++ drop n was
   pub fits : n ≤ length was
-
-pub start_listed : (o : Ops) (xs : List Sent) (was : List ℕ) → Listed o xs None was 0 was
-start_listed o xs was = record {
-  list = [];
-  ascending = tt;
-  weighed = λ x i. elim i [ ];
-  only = λ t i. elim i [ ];
-  bound = λ t i. elim i [ ];
-  every = λ t i h. absurd (true≢false h);
-  nine = refl;
-  count = refl;
-  written = refl;
-  fits = omega arith;
-}
 
 pub in_left : {X : Type 0} (x : X) (xs ys : List X) → In x xs → In x (xs ++ ys)
 in_left x [] ys i = elim i [ ]
@@ -70,52 +53,10 @@ joined_push [] x = append-nil (sent_words x)
 joined_push (y ∷ xs) x =
     ap (λ t. sent_words y ++ t) (joined_push xs x) ∙ sym (append_assoc (sent_words y) (flat_map sent_words xs) (sent_words x))
 
--- the frame that the scan found, by what it tells
-next_facts :
-    (last : Option (List ℕ)) (xs : List Sent) (t : List ℕ) →
-    Some t ≡ least last None xs →
-    In t (frames_of xs) × (above last t ≡ true) × ((u : List ℕ) → In u (frames_of xs) → above last u ≡ true → before u t ≡ false)
-next_facts last xs t e = go (least last None xs) e (least_found last None xs)
-  where
-    go :
-        (r : Option (List ℕ)) →
-        Some t ≡ r →
-        Found last None xs r →
-        In t (frames_of xs) × (above last t ≡ true) × ((u : List ℕ) → In u (frames_of xs) → above last u ≡ true → before u t ≡ false)
-    go None e h = absurd (let z : ◌≡◌ {A = ℕ} 0 1 = cc (e) in omega arith)
-    go (Some u) e h =
-        let f : t ≡ u = cc (e) in
-        elim h.0 [
-          | inl x ↦ absurd (let z : ◌≡◌ {A = ℕ} 0 1 = cc (x) in omega arith)
-          | inr m ↦ (
-            subst (λ (y : List ℕ). In y (frames_of xs)) (sym f) m.0,
-            subst (λ (y : List ℕ). above last y ≡ true) (sym f) m.1,
-            (λ w i v. subst (λ (y : List ℕ). before w y ≡ false) (sym f) (h.1 w i v)),
-          )
-        ]
-
-pub none_left :
-    (last : Option (List ℕ)) (xs : List Sent) →
-    None ≡ least last None xs →
-    (t : List ℕ) →
-    In t (frames_of xs) →
-    above last t ≡ false
-none_left last xs e = go (least last None xs) e (least_found last None xs)
-  where
-    go :
-        (r : Option (List ℕ)) →
-        None ≡ r →
-        Found last None xs r →
-        (t : List ℕ) →
-        In t (frames_of xs) →
-        above last t ≡ false
-    go None e h = h.1
-    go (Some u) e h = absurd (let z : ◌≡◌ {A = ℕ} 0 1 = cc (e) in omega arith)
-
 pub listed_more :
     (o : Ops) (xs : List Sent) (last : Option (List ℕ)) (was : List ℕ) (n : ℕ) (is is' t : List ℕ) (w : ℕ) →
     Listed o xs last was n is →
-    Some t ≡ least last None xs →
+    IsNext last xs t →
     w ≡ weight_in o t o.zero xs →
     length (sent_words (record { frame = t; weight = value_of w })) ≡ 9 →
     n + 9 ≤ length was →
@@ -123,8 +64,7 @@ pub listed_more :
     Listed o xs (Some t) was (n + 9) is'
 listed_more o xs last was n is is' t w l e v size room h =
     let x : Sent = record { frame = t; weight = value_of w } in
-    let f = next_facts last xs t e in
-    let up : (u : List ℕ) → In u (frames_of l.list) → before u t ≡ true = (λ u i. above_between last t u f.1 (l.bound u i)) in
+    let up : (u : List ℕ) → In u (frames_of l.list) → before u t ≡ true = (λ u i. above_between last t u e.after (l.bound u i)) in
     let push = frames_push l.list x in
     let more = joined_push l.list x in
     let front : take n is ≡ flat_map sent_words l.list = ap (take n) l.written ∙ take_at (flat_map sent_words l.list) (drop n was) n (sym l.count) in
@@ -140,14 +80,14 @@ listed_more o xs last was n is is' t w l e v size room h =
       ];
       only = λ u i. elim (in_push_cases u t (frames_of l.list) (subst (In u) push i)) [
         | inl m ↦ l.only u m
-        | inr m ↦ subst (λ (y : List ℕ). In y (frames_of xs)) (sym m) f.0
+        | inr m ↦ subst (λ (y : List ℕ). In y (frames_of xs)) (sym m) e.sent
       ];
       bound = λ u i. elim (in_push_cases u t (frames_of l.list) (subst (In u) push i)) [
         | inl m ↦ asymmetric u t (up u m)
         | inr m ↦ subst (λ (y : List ℕ). before t y ≡ false) (sym m) (irreflexive t)
       ];
       every = λ u i b. subst (In u) (sym push) (elim (cases_Bool (above last u)) [
-        | inl a ↦ subst (λ (y : List ℕ). In y (frames_of l.list ++ (t ∷ []))) (connected t u b (f.2 u i a)) (in_push t (frames_of l.list))
+        | inl a ↦ subst (λ (y : List ℕ). In y (frames_of l.list ++ (t ∷ []))) (connected t u b (e.least u i a)) (in_push t (frames_of l.list))
         | inr a ↦ in_left u (frames_of l.list) (t ∷ []) (l.every u i a)
       ]);
       nine = ap (λ k. k + 9) l.nine ∙ (let z : 9 * length l.list + 9 ≡ 9 * length (l.list ++ (x ∷ [])) = omega (arith, length-append l.list (x ∷ [])) in z);
@@ -163,18 +103,17 @@ listed_more o xs last was n is is' t w l e v size room h =
 pub listed_full :
     (o : Ops) (xs : List Sent) (last : Option (List ℕ)) (was : List ℕ) (n : ℕ) (is t : List ℕ) →
     Listed o xs last was n is →
-    Some t ≡ least last None xs →
+    IsNext last xs t →
     length was < n + 9 →
     RowFull xs (length was)
 listed_full o xs last was n is t l e small =
-    let f = next_facts last xs t e in
-    let up : (u : List ℕ) → In u (frames_of l.list) → before u t ≡ true = (λ u i. above_between last t u f.1 (l.bound u i)) in
+    let up : (u : List ℕ) → In u (frames_of l.list) → before u t ≡ true = (λ u i. above_between last t u e.after (l.bound u i)) in
     record {
       frames = frames_of l.list ++ (t ∷ []);
       ascending = ascending_push (frames_of l.list) t l.ascending up;
       only = λ u i. elim (in_push_cases u t (frames_of l.list) i) [
         | inl m ↦ l.only u m
-        | inr m ↦ subst (λ (y : List ℕ). In y (frames_of xs)) (sym m) f.0
+        | inr m ↦ subst (λ (y : List ℕ). In y (frames_of xs)) (sym m) e.sent
       ];
       many = omega (arith, l.nine, length-append (frames_of l.list) (t ∷ []), length-map l.list (λ (x : Sent). x.frame));
     }
@@ -182,7 +121,7 @@ listed_full o xs last was n is t l e small =
 pub listed_all :
     (o : Ops) (xs : List Sent) (last : Option (List ℕ)) (was : List ℕ) (n : ℕ) (is : List ℕ) →
     Listed o xs last was n is →
-    None ≡ least last None xs →
+    Next last xs None →
     RowSent o xs was n is
 listed_all o xs last was n is l e =
     record {
@@ -190,15 +129,8 @@ listed_all o xs last was n is l e =
       ascending = l.ascending;
       weighed = l.weighed;
       only = l.only;
-      every = λ t i. l.every t i (none_left last xs e t i);
+      every = λ t i. l.every t i (e t i);
       count = l.count;
       written = l.written;
       fits = l.fits;
     }
-
-length_words : (f : ℕ) (s : List ℕ) → length (words_from f s) ≡ length s
-length_words f [] = refl
-length_words f (n ∷ s) = ap suc (length_words (f + 1) s)
-
-pub length_frame_words : (s : List ℕ) → length (frame_words s) ≡ length s
-length_frame_words s = length_words 0 s

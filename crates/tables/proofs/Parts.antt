@@ -1,5 +1,5 @@
 -- Words by their parts, and the number of a row's matches.
-use Rattle.std.proofs.Common.{◌≡◌, ℕ, suc, ◌+◌, ◌<◌, ◌≤◌, List, [], ◌∷◌, length, get_or, drop, ap, arith}
+use Rattle.std.proofs.Common.{◌≡◌, ℕ, suc, ◌+◌, ◌<◌, ◌≤◌, List, [], ◌∷◌, map, length, get_or, drop, ap, arith}
 use Rattle.format.specs.Fields.{fields}
 use Rattle.format.specs.Words.{word, value_end, kind_of, field_of, value_of}
 use Rattle.tables.specs.Rows.{Pair, LegalPairs}
@@ -7,6 +7,12 @@ use Rattle.tables.specs.Rows.{Pair, LegalPairs}
 -- a field and a value that a word can hold
 abbrev pub Fit : ℕ → ℕ → Type 0
 Fit f v = (f < 16) × (v < value_end)
+
+abbrev pub match_words : List Pair → List ℕ
+match_words ps = map (λ p. word 11 p.0 p.1) ps
+
+abbrev pub set_words : List Pair → List ℕ
+set_words ps = map (λ p. word 13 p.0 p.1) ps
 
 pub whole_word : (w : ℕ) → w ≡ word (kind_of w) (field_of w) (value_of w)
 whole_word w = omega arith

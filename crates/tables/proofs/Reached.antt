@@ -1,9 +1,10 @@
 -- How far the check has come in a table's words.
-use Rattle.std.proofs.Common.{◌≡◌, ℕ, ◌+◌, ◌<◌, true, false, List, [], ◌∷◌, ◌++◌, map, length, get_or, take, sym, refl, ap, ◌∙◌, subst, append_assoc, arith, length-append}
+use Rattle.std.proofs.Common.{◌≡◌, ℕ, ◌+◌, ◌<◌, List, [], ◌∷◌, ◌++◌, map, length, get_or, take, Some, None, sym, refl, ap, ◌∙◌, subst, append_assoc, arith, length-append}
 use Rattle.std.specs.List.{flat_map}
 use Rattle.std.proofs.lemmas.List.{take_more, take_all, append-nil}
 use Rattle.format.specs.Words.{word}
 use Rattle.weights.specs.Weights.{Ops, Laws}
+use Rattle.tables.specs.declared.state.Checker.{Checker}
 use Rattle.tables.specs.declared.state.State.{State}
 use Rattle.tables.specs.declared.state.State.TheVariants.{Head, Matches, Emissions, Sets, End}
 use Rattle.tables.specs.Rows.{LegalTable, row_words, emission_words}
@@ -44,12 +45,12 @@ one_more : (ws : List ℕ) (i : ℕ) (rest : List ℕ) → i < length ws → tak
 one_more ws i rest l = ap (λ t. t ++ rest) (take_more ws i 0 l) ∙ append_assoc (take i ws) (get_or ws i 0 ∷ []) rest
 
 pub reached_more :
-    (o : Ops) (ws : List ℕ) (i n : ℕ) (s : State) (m : ℕ) (t : State) →
+    (o : Ops) (ws : List ℕ) (i n : ℕ) (s : State) (c : Checker) →
     i < length ws →
     Reached o ws i n s →
-    Takes o n s (get_or ws i 0) true m t →
-    Reached o ws (i + 1) m t
-reached_more o ws i n s m t l r h = (
+    Takes o n s (get_or ws i 0) (Some c) →
+    Reached o ws (i + 1) c.rows c.state
+reached_more o ws i n s c l r h = (
   h.0,
   (λ rest x. h.1 rest (r.1 (get_or ws i 0 ∷ rest) (subst (LegalTable o) (one_more ws i rest l) x))),
   (λ rest x. subst (LegalTable o) (sym (one_more ws i rest l)) (r.2 (get_or ws i 0 ∷ rest) (h.2 rest x))),
@@ -93,12 +94,12 @@ module _ {o : Ops} (laws : Laws o) where
   begins ws i n s r = let c = completes laws n s r.0 in (c.0, r.2 c.0 c.1)
 
   pub stuck_stops :
-      (ws : List ℕ) (i n : ℕ) (s : State) (m : ℕ) (t : State) →
+      (ws : List ℕ) (i n : ℕ) (s : State) →
       i < length ws →
       Reached o ws i n s →
-      Takes o n s (get_or ws i 0) false m t →
+      Takes o n s (get_or ws i 0) None →
       Stops o ws i
-  stuck_stops ws i n s m t l r h =
+  stuck_stops ws i n s l r h =
       record {
         within = omega arith;
         begins = begins ws i n s r;

@@ -1,34 +1,26 @@
 -- The words of legal rows, scanned.
-use Rattle.std.proofs.Common.{◌≡◌, ℕ, suc, ◌+◌, ◌-◌, ◌<◌, true, false, ◌&&◌, eqb, ◌⊎◌, List, [], ◌∷◌, ◌++◌, map, length, get_or, take, drop, sym, refl, ap, ◌∙◌, subst, inl, inr, append_assoc, arith, length-append, length-drop}
-use Rattle.std.specs.List.{flat_map, AllByRecursion}
-use Rattle.std.proofs.lemmas.List.{drop_more, drop_at, take_at, drop-drop, append-nil}
-use Rattle.std.proofs.ByRecursion.{All-append, All-weaker, All-push}
-use Rattle.std.proofs.lemmas.Bool.{and_parts, eq-eqb, ne_eqb, cond-true, cond-false}
+use Rattle.std.proofs.Common.{◌≡◌, ℕ, suc, ◌<◌, true, false, ◌&&◌, eqb, ◌⊎◌, List, [], ◌∷◌, ◌++◌, map, length, get_or, take, drop, Some, None, Option, MatchOption, option_map, Bor, sym, refl, ap, ◌∙◌, subst, inl, inr, append_assoc, arith, length-append}
+use Rattle.std.specs.List.{flat_map, find, AllByRecursion}
+use Rattle.std.proofs.lemmas.List.{take_at}
+use Rattle.std.proofs.Math.Seq.{drop-append-add}
+use Rattle.std.proofs.ByRecursion.{All-append, All-weaker}
+use Rattle.std.proofs.lemmas.Bool.{cases_Bool, and_parts, or_parts, eq-eqb, ne_eqb, cond-true, cond-false}
 use Rattle.format.specs.Words.{word, value_end, kind_of, value_of}
 use Rattle.weights.specs.Weights.{Ops, Laws}
 use Rattle.tables.specs.Rows.{Pair, Emission, Row, emission_words, row_words, table_words, LegalPairs, LegalEmission, LegalRow, LegalRows}
 use Rattle.tables.specs.Emits.{holds}
-use Rattle.tables.specs.Scans.{closes, body_length, words_hold}
+use Rattle.tables.specs.Scans.{closes, body_length, words_hold, rows_from, rows_in}
 use Rattle.tables.specs.Forwards.{Decides}
-use Rattle.tables.proofs.Parts.{parts_of_word, few_pairs, fit_pair, head_same, tail_same}
+use Rattle.tables.proofs.Parts.{match_words, set_words, parts_of_word, few_pairs, fit_pair}
 use Rattle.tables.proofs.Scans.{closes_by, closes_not}
-
-abbrev match_words : List Pair → List ℕ
-match_words ps = map (λ p. word 11 p.0 p.1) ps
-
-abbrev set_words : List Pair → List ℕ
-set_words ps = map (λ p. word 13 p.0 p.1) ps
 
 abbrev end_word : ℕ → List ℕ
 end_word n = word 14 0 n ∷ []
 
-match_kinds : (f : ℕ) (ps : List Pair) → LegalPairs f ps → AllByRecursion (λ w. kind_of w ≡ 11) (match_words ps)
-match_kinds f [] l = tt
-match_kinds f (p ∷ ps) l = ((parts_of_word 11 p.0 p.1 (fit_pair f p ps l)).0, match_kinds (suc p.0) ps l.3)
-
-pub set_kinds : (f : ℕ) (ps : List Pair) → LegalPairs f ps → AllByRecursion (λ w. kind_of w ≡ 13) (set_words ps)
-set_kinds f [] l = tt
-set_kinds f (p ∷ ps) l = ((parts_of_word 13 p.0 p.1 (fit_pair f p ps l)).0, set_kinds (suc p.0) ps l.3)
+-- the words of legal pairs have their kind
+pub pair_kinds : (k f : ℕ) (ps : List Pair) → LegalPairs f ps → AllByRecursion (λ w. kind_of w ≡ k) (map (λ p. word k p.0 p.1) ps)
+pair_kinds k f [] l = tt
+pair_kinds k f (p ∷ ps) l = ((parts_of_word k p.0 p.1 (fit_pair f p ps l)).0, pair_kinds k (suc p.0) ps l.3)
 
 pub body_append : (xs ys : List ℕ) → AllByRecursion (λ w. closes w ≡ false) xs → body_length ys ≡ 0 → body_length (xs ++ ys) ≡ length xs
 body_append [] ys a e = e
@@ -56,10 +48,6 @@ match_hold f (p ∷ ps) ys s l e =
     ) ∙
     ap (λ b. eqb (get_or s p.0 0) p.1 && b) (match_hold (suc p.0) ps ys s l.3 e)
 
-pub joined_append : (f : Row → List ℕ) (xs ys : List Row) → flat_map f (xs ++ ys) ≡ flat_map f xs ++ flat_map f ys
-joined_append f [] ys = refl
-joined_append f (x ∷ xs) ys = ap (λ t. f x ++ t) (joined_append f xs ys) ∙ sym (append_assoc (f x) (flat_map f xs) (flat_map f ys))
-
 module _ {o : Ops} (laws : Laws o) where
   emission_kinds :
       (es : List Emission) →
@@ -70,7 +58,7 @@ module _ {o : Ops} (laws : Laws o) where
       let small = laws.below_end e.weight l.0.of_kind in (
         inl (parts_of_word 12 0 e.weight (omega arith, omega arith)).0,
         All-append _ (set_words e.sets) (flat_map emission_words es)
-            (All-weaker (λ w. kind_of w ≡ 13) _ (λ w h. inr h) (set_words e.sets) (set_kinds 0 e.sets l.0.sets_legal))
+            (All-weaker (λ w. kind_of w ≡ 13) _ (λ w h. inr h) (set_words e.sets) (pair_kinds 13 0 e.sets l.0.sets_legal))
             (emission_kinds es l.1),
       )
 
@@ -80,7 +68,7 @@ module _ {o : Ops} (laws : Laws o) where
   body_open : (r : Row) → LegalRow o r → AllByRecursion (λ w. closes w ≡ false) (row_body r)
   body_open r l =
       All-append _ (match_words r.matches) (flat_map emission_words r.emissions)
-      (All-weaker (λ w. kind_of w ≡ 11) _ (λ w h. closes_not w (kind_of w) refl (λ x. omega (arith, h, x)) (λ x. omega (arith, h, x))) (match_words r.matches) (match_kinds 0 r.matches l.matches_legal))
+      (All-weaker (λ w. kind_of w ≡ 11) _ (λ w h. closes_not w (kind_of w) refl (λ x. omega (arith, h, x)) (λ x. omega (arith, h, x))) (match_words r.matches) (pair_kinds 11 0 r.matches l.matches_legal))
       (All-weaker (λ w. (kind_of w ≡ 12) ⊎ (kind_of w ≡ 13)) _
       (λ w h. elim h [
         | inl a ↦ closes_not w (kind_of w) refl (λ x. omega (arith, a, x)) (λ x. omega (arith, a, x))
@@ -112,135 +100,103 @@ module _ {o : Ops} (laws : Laws o) where
       (All-weaker (λ w. (kind_of w ≡ 12) ⊎ (kind_of w ≡ 13)) _ (λ w h x. elim h [ inl a ↦ omega (arith, a, x) | inr a ↦ omega (arith, a, x) ])
       (flat_map emission_words r.emissions) (emission_kinds r.emissions l.emissions_legal)))
 
--- the rows before place i were passed: none of them holds
-pub record Passed (o : Ops) (rows : List Row) (s ws : List ℕ) (i : ℕ) : Type 0 where
-  pub before : List Row
-  pub after : List Row
-  pub order : rows ≡ before ++ after
-  pub legal : AllByRecursion (LegalRow o) after
-  pub passed : AllByRecursion (λ r. holds r.matches s ≡ false) before
-  pub place : i ≡ length (flat_map row_words before)
-  pub rest : drop i ws ≡ flat_map row_words after ++ end_word (length rows)
+  -- the words of a row are the first row, and the rest are the others
+  rows_past : (xs ys : List ℕ) → AllByRecursion (λ w. closes w ≡ false) xs → rows_from (xs ++ ys) ≡ rows_from ys
+  rows_past [] ys a = refl
+  rows_past (x ∷ xs) ys a =
+      let p = or_parts (eqb (kind_of x) 10) (eqb (kind_of x) 14) a.0 in
+      simp (p.0, p.1) (rows_past xs ys a.1)
 
-pub start_passed : (o : Ops) (rows : List Row) (s ws : List ℕ) → LegalRows o rows → ws ≡ table_words rows → Passed o rows s ws 0
-start_passed o rows s ws l e =
-    record { before = []; after = rows; order = refl; legal = l.each; passed = tt; place = refl; rest = e }
+  rows_of_rows :
+      (rows : List Row) (n : ℕ) →
+      AllByRecursion (LegalRow o) rows →
+      n < value_end →
+      rows_from (flat_map row_words rows ++ end_word n) ≡ map row_words rows
+  rows_of_rows [] n l small =
+      cond-false _ _ _ (ne_eqb (kind_of (word 14 0 n)) 10 (λ x. omega (arith, end_kind n small, x))) ∙
+      cond-true _ _ _ (eq-eqb _ _ (end_kind n small))
+  rows_of_rows (r ∷ rows) n l small =
+      let t : List ℕ = flat_map row_words rows ++ end_word n in
+      let h : ℕ = word 10 (length r.matches) (length r.emissions) in
+      let e : body_length (row_body r ++ t) ≡ length (row_body r) =
+      body_append (row_body r) t (body_open r l.0) (tail_closes rows n l.1 small) in
+      ap (λ ws. rows_from (h ∷ ws)) (append_assoc (row_body r) (flat_map row_words rows) (end_word n)) ∙
+      cond-true _ _ _ (eq-eqb _ _ (head_kind r l.0)) ∙
+      ap (λ k. (h ∷ take k (row_body r ++ t)) ∷ rows_from (row_body r ++ t)) e ∙
+      ap (λ ws. (h ∷ ws) ∷ rows_from (row_body r ++ t)) (take_at (row_body r) t (length (row_body r)) refl) ∙
+      ap (λ rs. row_words r ∷ rs) (rows_past (row_body r) t (body_open r l.0) ∙ rows_of_rows rows n l.1 small)
 
--- the row at place i, which ends at j
-pub record RowAt (o : Ops) (rows : List Row) (s ws : List ℕ) (i j : ℕ) : Type 0 where
-  pub before : List Row
-  pub row : Row
-  pub after : List Row
-  pub order : rows ≡ before ++ (row ∷ after)
-  pub legal : AllByRecursion (LegalRow o) (row ∷ after)
-  pub passed : AllByRecursion (λ r. holds r.matches s ≡ false) before
-  pub place : i ≡ length (flat_map row_words before)
-  pub end : j ≡ i + length (row_words row)
-  pub split : drop i ws ≡ row_words row ++ (flat_map row_words after ++ end_word (length rows))
+  rows_of_table : (rows : List Row) → LegalRows o rows → rows_in (table_words rows) ≡ map row_words rows
+  rows_of_table [] l = cond-false _ (rows_from (end_word 0)) _ (ne_eqb (kind_of (word 14 0 0)) 10 (λ x. omega (arith, end_kind 0 l.countable, x)))
+  rows_of_table (r ∷ rows) l = cond-true _ _ _ (eq-eqb _ _ (head_kind r l.each.0)) ∙ rows_of_rows (r ∷ rows) (length (r ∷ rows)) l.each l.countable
 
-module _ {o : Ops} (laws : Laws o) where
-  pub row_at :
-      (rows : List Row) (s ws : List ℕ) (i j : ℕ) →
-      length rows < value_end →
-      Passed o rows s ws i →
-      i < length ws →
-      kind_of (get_or ws i 0) ≡ 10 →
-      j ≡ i + 1 + body_length (drop (i + 1) ws) →
-      RowAt o rows s ws i j
-  row_at rows s ws i j small p l k e = go p.after p.order p.legal (sym (drop_more ws i 0 l) ∙ p.rest)
+  -- the first row that holds, wherever the words go on after the rows
+  first_holds :
+      (rows : List Row) (s more : List ℕ) (r : Option (List ℕ)) →
+      AllByRecursion (LegalRow o) rows →
+      r ≡ find (λ ws. words_hold ws s) (map row_words rows) →
+      MatchOption r (AllByRecursion (λ x. holds x.matches s ≡ false) rows) (λ found. Decides rows s (flat_map row_words rows ++ more) found)
+  first_holds [] s more r l e = subst (λ (x : Option (List ℕ)). MatchOption x (Unit {0}) (λ found. Decides [] s more found)) (sym e) tt
+  first_holds (x ∷ rows) s more r l e = go (λ h. later h r (first_holds rows s more r l.1 (e ∙ cond-false _ _ _ h))) (cases_Bool (words_hold (row_words x) s))
     where
-      go :
-          (after : List Row) →
-          rows ≡ p.before ++ after →
-          AllByRecursion (LegalRow o) after →
-          get_or ws i 0 ∷ drop (i + 1) ws ≡ flat_map row_words after ++ end_word (length rows) →
-          RowAt o rows s ws i j
-      go [] order legal h =
-          absurd (let z = ap kind_of (head_same h) ∙ end_kind laws (length rows) small in omega (arith, z, k))
-      go (r ∷ after) order legal h =
-          let t : List ℕ = flat_map row_words after ++ end_word (length rows) in
-          let b : drop (i + 1) ws ≡ row_body laws r ++ t =
-          tail_same h ∙ append_assoc (row_body laws r) (flat_map row_words after) (end_word (length rows)) in
-          let n : body_length (drop (i + 1) ws) ≡ length (row_body laws r) =
-          ap body_length b ∙ body_append (row_body laws r) t (body_open laws r legal.0) (tail_closes laws after (length rows) legal.1 small) in
+      later :
+          words_hold (row_words x) s ≡ false →
+          (r : Option (List ℕ)) →
+          MatchOption r (AllByRecursion (λ x. holds x.matches s ≡ false) rows) (λ found. Decides rows s (flat_map row_words rows ++ more) found) →
+          MatchOption r (AllByRecursion (λ x. holds x.matches s ≡ false) (x ∷ rows)) (λ found. Decides (x ∷ rows) s (flat_map row_words (x ∷ rows) ++ more) found)
+      later h None a = (sym (row_hold x s l.0) ∙ h, a)
+      later h (Some found) d =
           record {
-            before = p.before;
-            row = r;
-            after = after;
-            order = order;
-            legal = legal;
-            passed = p.passed;
-            place = p.place;
-            end = e ∙ ap (λ m. i + 1 + m) n ∙ (let z : i + 1 + length (row_body laws r) ≡ i + suc (length (row_body laws r)) = omega arith in z);
-            split = drop_more ws i 0 l ∙ h ∙ append_assoc (row_words r) (flat_map row_words after) (end_word (length rows));
+            before = x ∷ d.before;
+            row = d.row;
+            after = d.after;
+            order = ap (λ rs. x ∷ rs) d.order;
+            passed = (sym (row_hold x s l.0) ∙ h, d.passed);
+            held = d.held;
+            found_is = d.found_is;
+            part =
+                d.part ∙
+                ap (take (length found))
+                (sym (ap (drop (length (row_words x ++ flat_map row_words d.before))) (append_assoc (row_words x) (flat_map row_words rows) more) ∙
+                ap (λ k. drop k (row_words x ++ (flat_map row_words rows ++ more))) (length-append (row_words x) (flat_map row_words d.before)) ∙
+                drop-append-add (row_words x) (flat_map row_words rows ++ more) (length (flat_map row_words d.before))));
           }
 
-  pub row_slice : (rows : List Row) (s ws : List ℕ) (i j : ℕ) (r : RowAt o rows s ws i j) → take (j - i) (drop i ws) ≡ row_words r.row
-  row_slice rows s ws i j r =
-      let n : length (row_words r.row) ≡ j - i = omega (arith, r.end) in
-      ap (take (j - i)) r.split ∙ take_at (row_words r.row) (flat_map row_words r.after ++ end_word (length rows)) (j - i) n
-
-  pub row_decides :
-      (rows : List Row) (s ws found : List ℕ) (i j : ℕ) →
-      RowAt o rows s ws i j →
-      found ≡ take (j - i) (drop i ws) →
-      words_hold found s ≡ true →
-      Decides rows s ws found
-  row_decides rows s ws found i j r e h =
-      let f : found ≡ row_words r.row = e ∙ row_slice rows s ws i j r in
-      let n : j - i ≡ length found = (let z = ap length f in omega (arith, r.end)) in
-      record {
-        before = r.before;
-        row = r.row;
-        after = r.after;
-        order = r.order;
-        passed = r.passed;
-        held = sym (row_hold laws r.row s r.legal.0) ∙ ap (λ x. words_hold x s) (sym f) ∙ h;
-        found_is = f;
-        part = e ∙ ap (λ k. take (j - i) (drop k ws)) r.place ∙ ap (λ k. take k (drop (length (flat_map row_words r.before)) ws)) n;
-      }
-
-  pub row_passed :
-      (rows : List Row) (s ws : List ℕ) (i j : ℕ) →
-      RowAt o rows s ws i j →
-      words_hold (take (j - i) (drop i ws)) s ≡ false →
-      Passed o rows s ws j
-  row_passed rows s ws i j r h =
-      let t : List ℕ = flat_map row_words r.after ++ end_word (length rows) in
-      let q : flat_map row_words (r.before ++ (r.row ∷ [])) ≡ flat_map row_words r.before ++ row_words r.row =
-      joined_append row_words r.before (r.row ∷ []) ∙ ap (λ x. flat_map row_words r.before ++ x) (append-nil (row_words r.row)) in
-      let m = length-append (flat_map row_words r.before) (row_words r.row) in
-      let no_hold = sym (row_hold laws r.row s r.legal.0) ∙ ap (λ x. words_hold x s) (sym (row_slice rows s ws i j r)) ∙ h in
-      record {
-        before = r.before ++ (r.row ∷ []);
-        after = r.after;
-        order = r.order ∙ sym (append_assoc r.before (r.row ∷ []) r.after);
-        legal = r.legal.1;
-        passed = All-push (λ x. holds x.matches s ≡ false) r.before r.row r.passed no_hold;
-        place = r.end ∙ ap (λ k. k + length (row_words r.row)) r.place ∙ sym m ∙ ap length (sym q);
-        rest =
-            ap (λ k. drop k ws) r.end ∙
-            sym (drop-drop (length (row_words r.row)) i ws) ∙
-            ap (drop (length (row_words r.row))) r.split ∙
-            drop_at (row_words r.row) t (length (row_words r.row)) refl;
-      }
-
-  -- where no head stands, no row is left
-  pub all_passed :
-      (rows : List Row) (s ws : List ℕ) (i : ℕ) →
-      Passed o rows s ws i →
-      (i < length ws → kind_of (get_or ws i 0) ≡ 10 → ⊥) →
-      AllByRecursion (λ r. holds r.matches s ≡ false) rows
-  all_passed rows s ws i p no_head = go p.after p.order p.legal p.rest
-    where
       go :
-          (after : List Row) →
-          rows ≡ p.before ++ after →
-          AllByRecursion (LegalRow o) after →
-          drop i ws ≡ flat_map row_words after ++ end_word (length rows) →
-          AllByRecursion (λ r. holds r.matches s ≡ false) rows
-      go [] order legal h = subst (AllByRecursion (λ r. holds r.matches s ≡ false)) (sym (order ∙ append-nil p.before)) p.passed
-      go (r ∷ after) order legal h =
-          let some : 0 < length (drop i ws) = omega (arith, ap length h) in
-          let l : i < length ws = omega (arith, length-drop i ws) in
-          absurd (no_head l (ap kind_of (head_same (sym (drop_more ws i 0 l) ∙ h)) ∙ head_kind laws r legal.0))
+          (words_hold (row_words x) s ≡ false → MatchOption r (AllByRecursion (λ x. holds x.matches s ≡ false) (x ∷ rows)) (λ found. Decides (x ∷ rows) s (flat_map row_words (x ∷ rows) ++ more) found)) →
+          (words_hold (row_words x) s ≡ true) ⊎ (words_hold (row_words x) s ≡ false) →
+          MatchOption r (AllByRecursion (λ x. holds x.matches s ≡ false) (x ∷ rows)) (λ found. Decides (x ∷ rows) s (flat_map row_words (x ∷ rows) ++ more) found)
+      go next (inl h) =
+          subst (λ (y : Option (List ℕ)). MatchOption y (AllByRecursion (λ x. holds x.matches s ≡ false) (x ∷ rows)) (λ found. Decides (x ∷ rows) s (flat_map row_words (x ∷ rows) ++ more) found))
+          (sym (e ∙ cond-true _ _ _ h))
+          (record {
+            before = [];
+            row = x;
+            after = rows;
+            order = refl;
+            passed = tt;
+            held = sym (row_hold x s l.0) ∙ h;
+            found_is = refl;
+            part =
+                sym (ap (take (length (row_words x))) (append_assoc (row_words x) (flat_map row_words rows) more) ∙
+                take_at (row_words x) (flat_map row_words rows ++ more) (length (row_words x)) refl);
+          })
+      go next (inr h) = next h
+
+pub lookup_decides :
+    {o : Ops} (laws : Laws o) (rows : List Row) (s ws : List ℕ) (r : Option (Bor (List ℕ))) →
+    LegalRows o rows →
+    ws ≡ table_words rows →
+    option_map (λ x. x.now) r ≡ find (λ x. words_hold x s) (rows_in ws) →
+    MatchOption r (AllByRecursion (λ x. holds x.matches s ≡ false) rows) (λ found. Decides rows s ws found.now)
+lookup_decides laws rows s ws r l e h =
+    subst (λ (ws : List ℕ). MatchOption r (AllByRecursion (λ x. holds x.matches s ≡ false) rows) (λ found. Decides rows s ws found.now)) (sym e)
+    (of_now r (first_holds laws rows s (end_word (length rows)) (option_map (λ x. x.now) r) l.each
+    (h ∙ ap (λ ws. find (λ x. words_hold x s) (rows_in ws)) e ∙ ap (find (λ x. words_hold x s)) (rows_of_table laws rows l))))
+  where
+    of_now :
+        (r : Option (Bor (List ℕ))) →
+        MatchOption (option_map (λ x. x.now) r) (AllByRecursion (λ x. holds x.matches s ≡ false) rows) (λ found. Decides rows s (table_words rows) found) →
+        MatchOption r (AllByRecursion (λ x. holds x.matches s ≡ false) rows) (λ found. Decides rows s (table_words rows) found.now)
+    of_now None h = h
+    of_now (Some x) h = h

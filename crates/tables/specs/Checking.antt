@@ -1,9 +1,10 @@
 -- What may still come in each state of the check, for a legal table.
-use Rattle.std.specs.Prelude.{◌≡◌, ℕ, zero, suc, ◌+◌, ◌<◌, ◌≤◌, Bool, List, [], ◌∷◌, ◌++◌, map, length, take, MatchBool}
+use Rattle.std.specs.Prelude.{◌≡◌, ℕ, zero, suc, ◌+◌, ◌<◌, ◌≤◌, List, [], ◌∷◌, ◌++◌, map, length, take, Option, MatchOption}
 use Rattle.std.specs.List.{flat_map, AllByRecursion}
 use Rattle.format.specs.Fields.{fields}
 use Rattle.format.specs.Words.{word, value_end}
 use Rattle.weights.specs.Weights.{Ops}
+use Rattle.tables.specs.declared.state.Checker.{Checker}
 use Rattle.tables.specs.declared.state.State.{State}
 use Rattle.tables.specs.declared.state.State.TheVariants.{Head, Matches, Emissions, Sets, End}
 use Rattle.tables.specs.Rows.{Pair, Emission, Row, emission_words, row_words, LegalPairs, LegalEmission, LegalRow, LegalTable}
@@ -58,14 +59,12 @@ Open n (Sets f due) = (n < value_end) × (f ≤ fields)
 Open n End = Unit {0}
 
 -- word w leads from a state to another just if a legal table can go on so
-abbrev pub Takes : Ops → ℕ → State → ℕ → Bool → ℕ → State → Type 0
-Takes o n s w r m t =
-    MatchBool r
-    (Open m t
-    × ((rest : List ℕ) → Rest o n s (w ∷ rest) → Rest o m t rest)
-    × ((rest : List ℕ) → Rest o m t rest → Rest o n s (w ∷ rest))
-    )
-    ((rest : List ℕ) → Rest o n s (w ∷ rest) → ⊥)
+abbrev pub Takes : Ops → ℕ → State → ℕ → Option Checker → Type 0
+Takes o n s w r =
+    MatchOption r ((rest : List ℕ) → Rest o n s (w ∷ rest) → ⊥)
+    (λ c. Open c.rows c.state
+    × ((rest : List ℕ) → Rest o n s (w ∷ rest) → Rest o c.rows c.state rest)
+    × ((rest : List ℕ) → Rest o c.rows c.state rest → Rest o n s (w ∷ rest)))
 
 -- a legal table begins with the words before place i, but none with the word there too; or they end early there
 pub record Stops (o : Ops) (ws : List ℕ) (i : ℕ) : Type 0 where

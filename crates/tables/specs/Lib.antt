@@ -1,3 +1,5 @@
+pub mod Kinds
+pub mod TableWords
 pub mod Rows
 pub mod Emits
 pub mod Checking

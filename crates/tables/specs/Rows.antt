@@ -58,3 +58,7 @@ pub record LegalRows (o : Ops) (rows : List Row) : Type 0 where
 -- words are a legal table if they are those of legal rows
 abbrev pub LegalTable : Ops → List ℕ → Type 0
 LegalTable o ws = (rows : List Row) × LegalRows o rows × (ws ≡ table_words rows)
+
+-- P holds of the rows of the legal table whose words these are; of words that are no legal table this says nothing
+abbrev pub OfItsRows : Ops → List ℕ → (List Row → Type 0) → Type 0
+OfItsRows o ws P = (rows : List Row) → LegalRows o rows → ws ≡ table_words rows → P rows

@@ -1,11 +1,12 @@
 -- What a scan of words finds, whatever the words are.
-use Rattle.std.specs.Prelude.{◌≡◌, ℕ, suc, ◌*◌, ◌<◌, ◌≤◌, Bool, true, cond, ◌&&◌, ◌||◌, List, [], ◌∷◌, ◌++◌, map, length, drop, Some, None, Option, ◌==◌, nat_lt, slice_index, slice_set}
+use Rattle.std.specs.Prelude.{◌≡◌, ℕ, suc, ◌*◌, ◌<◌, ◌≤◌, Bool, true, false, cond, ◌&&◌, ◌||◌, List, [], ◌∷◌, ◌++◌, map, length, take, drop, Some, None, Option, option_map, ◌==◌, nat_lt, slice_index, slice_set}
 use Rattle.std.specs.List.{flat_map}
 use Rattle.format.specs.Fields.{fields, range}
 use Rattle.format.specs.Words.{kind_of, field_of, value_of}
 use Rattle.frames.specs.Frames.{before}
 use Rattle.frames.specs.declared.frame.Frame.{Frame}
 use Rattle.weights.specs.Weights.{Ops}
+use Rattle.tables.specs.declared.forward.Sent.{Sent as SentFrame}
 use Rattle.tables.specs.Emits.{Sent, sent_length, sent_words, same, In, Ascending}
 
 -- a head or an end, before which a row is over
@@ -17,10 +18,24 @@ abbrev pub body_length : List ℕ → ℕ
 body_length [] = 0
 body_length (w ∷ ws) = cond (closes w) 0 (suc (body_length ws))
 
+-- a match word holds of frame s, and so does every other word
+abbrev pub word_holds : ℕ → List ℕ → Bool
+word_holds w s = cond (kind_of w == 11) (slice_index s (field_of w) == value_of w) true
+
 -- every match word holds of frame s
 abbrev pub words_hold : List ℕ → List ℕ → Bool
 words_hold [] s = true
-words_hold (w ∷ ws) s = cond (kind_of w == 11) (slice_index s (field_of w) == value_of w) true && words_hold ws s
+words_hold (w ∷ ws) s = word_holds w s && words_hold ws s
+
+-- the rows from the next head on, up to an end: each is a head and what stands before the next head or end
+abbrev pub rows_from : List ℕ → List (List ℕ)
+rows_from [] = []
+rows_from (w ∷ ws) = cond (kind_of w == 10) ((w ∷ take (body_length ws) ws) ∷ rows_from ws) (cond (kind_of w == 14) [] (rows_from ws))
+
+-- the rows with which the words begin
+abbrev pub rows_in : List ℕ → List (List ℕ)
+rows_in [] = []
+rows_in (w ∷ ws) = cond (kind_of w == 10) (rows_from (w ∷ ws)) []
 
 -- frame s after one set word
 abbrev pub put : ℕ → List ℕ → List ℕ
@@ -45,18 +60,23 @@ abbrev pub above : Option (List ℕ) → List ℕ → Bool
 above None t = true
 above (Some s) t = before s t
 
-abbrev pub below : List ℕ → Option (List ℕ) → Bool
-below t None = true
-below t (Some s) = before t s
+-- t is sent and comes after the last one, and no such frame comes before it
+pub record IsNext (last : Option (List ℕ)) (xs : List Sent) (t : List ℕ) : Type 0 where
+  pub sent : In t (map (λ x. x.frame) xs)
+  pub after : above last t ≡ true
+  pub least : (u : List ℕ) → In u (map (λ x. x.frame) xs) → above last u ≡ true → before u t ≡ false
 
--- the least frame sent that comes after the last one, or the best so far
-abbrev pub least : Option (List ℕ) → Option (List ℕ) → List Sent → Option (List ℕ)
-least last best [] = best
-least last best (x ∷ xs) = least last (cond (above last x.frame && below x.frame best) (Some x.frame) best) xs
+-- the least frame sent that comes after the last one, or none where none does
+abbrev pub Next : Option (List ℕ) → List Sent → Option (List ℕ) → Type 0
+Next last xs None = (t : List ℕ) → In t (map (λ x. x.frame) xs) → above last t ≡ false
+Next last xs (Some t) = IsNext last xs t
 
 abbrev pub values_of : Option Frame → Option (List ℕ)
-values_of None = None
-values_of (Some s) = Some s.values
+values_of = option_map (λ s. s.values)
+
+-- a frame that is sent, by its values
+abbrev pub sent_of : SentFrame → Sent
+sent_of x = record { frame = x.frame.values; weight = x.weight }
 
 -- what a row sends, written: its frames ascending, each once with its joined weight, and the words behind them as they were
 pub record RowSent (o : Ops) (xs : List Sent) (was : List ℕ) (n : ℕ) (is : List ℕ) : Type 0 where

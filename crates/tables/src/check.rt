@@ -8,25 +8,23 @@ ghost use Rattle.tables.specs.declared.state.State.TheVariants.{Head, Matches, E
 ghost use Rattle.tables.specs.Rows.{LegalTable};
 ghost use Rattle.tables.specs.Checking.{Takes, Open, Stops, next_due};
 
-use super::state::State;
-use super::{END, HEAD, MATCH, SET, WEIGHT};
+use super::kind::TableKind;
+use super::state::{Checker, State};
+use super::word::TableWord;
 use faults::TableFault;
-use format::{FIELDS, Setting, VALUE_END, Word};
+use format::{FIELDS, Setting, VALUE_END};
+use std::marker::PhantomData;
 use weights::WeightKind;
 
 // The words of a legal table of the kind K, which only the check makes.
-pub struct CheckedTable<'a, K> {
+#[derive(Drop)]
+pub struct CheckedTable<'a, K: WeightKind> {
     pub(crate) words: &'a [u32],
-    pub(crate) kind: [K; 0],
+    kind: PhantomData<K>,
+    ghost legal: { ∥ LegalTable K.WeightKind.ops words.now ∥₁ },
 }
 
-impl<K> Drop for CheckedTable<'_, K> {
-    fn drop(self) {
-        let CheckedTable { words: _, kind: [] } = self;
-    }
-}
-
-impl<'a, K> CheckedTable<'a, K> {
+impl<'a, K: WeightKind> CheckedTable<'a, K> {
     // The very slice that was checked.
     pub fn words(&self) -> &'a [u32]
         ensures { result ≡ self.now.words }
@@ -35,35 +33,27 @@ impl<'a, K> CheckedTable<'a, K> {
     }
 }
 
-// How far a check has come: its state, and how many heads it read.
-#[derive(Clone, Copy)]
-struct Checker {
-    state: State,
-    rows: u32,
-}
-
 impl State {
     // The state in which so many matches of fields from the first number on and so many emissions are due.
     fn due(from: u32, matches: u32, emissions: u32) -> State
         ensures { result ≡ next_due from matches emissions }
     {
-        if matches > 0 {
-            State::Matches {
+        match (matches, emissions) {
+            (0, 0) => State::Head,
+            (0, due) => State::Emissions { due },
+            (due, emissions) => State::Matches {
                 from,
-                due: matches,
+                due,
                 emissions,
-            }
-        } else if emissions > 0 {
-            State::Emissions { due: emissions }
-        } else {
-            State::Head
+            },
         }
     }
 }
 
 impl Checker {
+    // Not `Default`, which cannot be derived beside a ghost field.
     fn start() -> Checker
-        ensures { result ≡ record { state = Head; rows = 0 } }
+        ensures { (result.state ≡ Head) × (result.rows ≡ 0) }
     {
         Checker {
             state: State::Head,
@@ -72,117 +62,121 @@ impl Checker {
     }
 
     // A head where a row may begin.
-    fn head(&mut self, field: u32, value: u32) -> bool
-        requires { (field < 16) × ((value < value_end) × (self.old.rows < value_end)) }
-        ensures { (o : Ops) → Takes o self.old.rows Head (word 10 field value) result self.new.rows self.new.state }
+    fn head(self, next: TableWord) -> Option<Checker>
+        ensures { (o : Ops) → Takes o self.rows Head (word 10 next.field next.value) result }
     {
-        if self.rows + 1 >= VALUE_END || field > FIELDS {
-            return false;
+        if self.rows + 1 >= VALUE_END || next.field > FIELDS {
+            return None;
         }
-        self.rows += 1;
-        self.state = State::due(0, field, value);
-        true
+        Some(Checker {
+            state: State::due(0, next.field, next.value),
+            rows: self.rows + 1,
+        })
     }
 
     // The end where a row may begin.
-    fn end(&mut self, field: u32, value: u32) -> bool
-        requires { (field < 16) × ((value < value_end) × (self.old.rows < value_end)) }
-        ensures { (o : Ops) → Takes o self.old.rows Head (word 14 field value) result self.new.rows self.new.state }
+    fn end(self, next: TableWord) -> Option<Checker>
+        ensures { (o : Ops) → Takes o self.rows Head (word 14 next.field next.value) result }
     {
-        if field != 0 || value != self.rows {
-            return false;
+        if next.field != 0 || next.value != self.rows {
+            return None;
         }
-        self.state = State::End;
-        true
+        // Each field is written out, here and below: `..self` is refused beside a ghost field.
+        Some(Checker {
+            state: State::End,
+            rows: self.rows,
+        })
     }
 
     // A match where so many are due of fields from `from` on, and then so many emissions.
-    fn matched(&mut self, from: u32, due: u32, emissions: u32, setting: Setting) -> bool
-        requires { Open self.old.rows (Matches from due emissions) }
-        ensures { (o : Ops) → Takes o self.old.rows (Matches from due emissions) (word 11 setting.field setting.value) result self.new.rows self.new.state }
+    fn matched(self, from: u32, due: u32, emissions: u32, setting: Setting) -> Option<Checker>
+        requires { Open self.rows (Matches from due emissions) }
+        ensures { (o : Ops) → Takes o self.rows (Matches from due emissions) (word 11 setting.field setting.value) result }
     {
         if setting.field < from || setting.field + due > FIELDS {
-            return false;
+            return None;
         }
-        self.state = State::due(setting.field + 1, due - 1, emissions);
-        true
+        Some(Checker {
+            state: State::due(setting.field + 1, due - 1, emissions),
+            rows: self.rows,
+        })
     }
 
     // A weight where so many emissions are due.
-    fn weight<K: WeightKind>(&mut self, due: u32, field: u32, value: u32) -> bool
-        requires { (field < 16) × ((value < value_end) × (self.old.rows < value_end)) }
-        ensures { Takes K.WeightKind.ops self.old.rows (Emissions due) (word 12 field value) result self.new.rows self.new.state }
+    fn weight<K: WeightKind>(self, due: u32, next: TableWord) -> Option<Checker>
+        ensures { Takes K.WeightKind.ops self.rows (Emissions due) (word 12 next.field next.value) result }
     {
-        if due == 0 || field != 0 || value == K::zero() || !K::is_weight(value) {
-            return false;
+        if due == 0 || next.field != 0 || next.value == K::zero() || !K::is_weight(next.value) {
+            return None;
         }
-        self.state = State::Sets {
-            from: 0,
-            due: due - 1,
-        };
-        true
+        Some(Checker {
+            state: State::Sets {
+                from: 0,
+                due: due - 1,
+            },
+            rows: self.rows,
+        })
     }
 
     // A set where fields from `from` on may be set.
-    fn set(&mut self, from: u32, due: u32, setting: Setting) -> bool
-        requires { self.old.rows < value_end }
-        ensures { (o : Ops) → Laws o → Takes o self.old.rows (Sets from due) (word 13 setting.field setting.value) result self.new.rows self.new.state }
+    fn set(self, from: u32, due: u32, setting: Setting) -> Option<Checker>
+        ensures { (o : Ops) → Laws o → Takes o self.rows (Sets from due) (word 13 setting.field setting.value) result }
     {
         if setting.field < from {
-            return false;
+            return None;
         }
-        self.state = State::Sets {
-            from: setting.field + 1,
-            due,
-        };
-        true
+        Some(Checker {
+            state: State::Sets {
+                from: setting.field + 1,
+                due,
+            },
+            rows: self.rows,
+        })
     }
 
     // Takes one more word, if a legal table can go on so.
-    fn step<K: WeightKind>(&mut self, bits: u32) -> bool
-        requires { Open self.old.rows self.old.state }
-        ensures { Takes K.WeightKind.ops self.old.rows self.old.state bits result self.new.rows self.new.state }
+    fn step<K: WeightKind>(self, bits: u32) -> Option<Checker>
+        requires { Open self.rows self.state }
+        ensures { Takes K.WeightKind.ops self.rows self.state bits result }
     {
-        let word = Word::split(bits);
-        match (self.state, word.kind) {
-            (State::Head, HEAD) => self.head(word.field, word.value),
-            (State::Head, END) => self.end(word.field, word.value),
+        let next = TableWord::try_from(bits).ok()?;
+        // The state and the word's kind are matched at once: a rule of the project.
+        match (self.state, next.kind) {
+            (State::Head | State::Sets { from: _, due: 0 }, TableKind::Head) => self.head(next),
+            (State::Head | State::Sets { from: _, due: 0 }, TableKind::End) => self.end(next),
             (
                 State::Matches {
                     from,
                     due,
                     emissions,
                 },
-                MATCH,
-            ) => match Setting::new(word.field, word.value) {
-                Some(setting) => self.matched(from, due, emissions, setting),
-                None => false,
-            },
-            (State::Emissions { due }, WEIGHT) => self.weight::<K>(due, word.field, word.value),
-            (State::Sets { from, due }, SET) => match Setting::new(word.field, word.value) {
-                Some(setting) => self.set(from, due, setting),
-                None => false,
-            },
-            (State::Sets { from: _, due }, WEIGHT) => self.weight::<K>(due, word.field, word.value),
-            (State::Sets { from: _, due }, HEAD) => due == 0 && self.head(word.field, word.value),
-            (State::Sets { from: _, due }, END) => due == 0 && self.end(word.field, word.value),
-            _ => false,
+                TableKind::Match,
+            ) => self.matched(from, due, emissions, Setting::new(next.field, next.value)?),
+            (State::Emissions { due } | State::Sets { from: _, due }, TableKind::Weight) => {
+                self.weight::<K>(due, next)
+            }
+            (State::Sets { from, due }, TableKind::Set) => {
+                self.set(from, due, Setting::new(next.field, next.value)?)
+            }
+            _ => None,
         }
     }
 }
 
-// Words as a table of the kind K, or the place where they are none.
+// Words as a table of the kind K, or the place where they are none. As a `TryFrom` this would be no plainer: the name
+// says what is done.
 pub fn check_table<'a, K: WeightKind>(words: &'a [u32]) -> Result<CheckedTable<'a, K>, TableFault>
     ensures { MatchResult result (λ t. (t.words.now ≡ words.now) × LegalTable K.WeightKind.ops words.now) (λ e. elim e [ Illegal i ↦ Stops K.WeightKind.ops words.now i ]) }
 {
     let mut checker = Checker::start();
     for (place, bits) in words.iter().enumerate() {
-        if !checker.step::<K>(*bits) {
-            return Err(TableFault::Illegal(place));
-        }
+        checker = checker.step::<K>(*bits).ok_or(TableFault::Illegal(place))?;
     }
     match checker.state {
-        State::End => Ok(CheckedTable { words, kind: [] }),
+        State::End => Ok(CheckedTable {
+            words,
+            kind: PhantomData,
+        }),
         _ => Err(TableFault::Illegal(words.len())),
     }
 }

@@ -1,33 +1,34 @@
 // Frames forwarded through a checked table.
-ghost use Rattle.std.specs.Prelude.{◌≡◌, ℕ, ◌+◌, ◌≤◌, ◌&&◌, List, ◌++◌, length, take, drop, replicate, IfOk, None, Decides, MatchResult, OnErr};
+ghost use Rattle.std.specs.Prelude.{◌≡◌, ◌+◌, ◌≤◌, ◌++◌, length, drop, replicate, ◌<◌, IfOk, MatchResult, OnErr};
+ghost use Rattle.std.specs.Iterator.{YieldsFirstBy, item_count};
 ghost use Rattle.format.specs.Words.{value_of};
-ghost use Rattle.tables.specs.Rows.{Row, LegalRows, table_words};
+ghost use Rattle.tables.specs.Rows.{OfItsRows};
 ghost use Rattle.faults.specs.declared.layers.FrameFault.TheVariants.{NoRoom};
 ghost use Rattle.tables.specs.Emits.{sent_length, sent_words};
-ghost use Rattle.tables.specs.Scans.{RowSent, RowFull, applied as applied_to, sends, weight_in, least, above, below, values_of};
+ghost use Rattle.tables.specs.Scans.{RowSent, RowFull, applied as applied_to, sends, weight_in, Next, above, values_of, sent_of};
 ghost use Rattle.tables.specs.Forwards.{Answered, Refused};
 
 use super::check::CheckedTable;
-use super::{SET, WEIGHT};
-use faults::FrameFault;
-use format::{KIND_UNIT, Setting, VALUE_END, Word};
+use super::kind::TableKind;
+use super::word::TableWord;
+use faults::{FrameFault, zeros_if_refused};
+use format::{Setting, VALUE_END, Word};
 use frames::{Frame, WIDTH};
 use weights::WeightKind;
 
 // An emitted frame has a weight word and a word for each field.
-const SENT_WORDS: usize = 1 + WIDTH;
+pub const SENT_WORDS: usize = 1 + WIDTH;
 
-// The frame after the set words that stand from a place on.
-fn applied(row: &[u32], from: usize, frame: Frame) -> Frame
-    requires { from ≤ length row.now }
-    ensures { result.values ≡ applied_to (drop from row.now) frame.values }
+// The frame after the set words with which words begin.
+fn applied(words: &[u32], frame: Frame) -> Frame
+    ensures { result.values ≡ applied_to words.now frame.values }
 {
     let mut sent = frame;
-    for place in from..row.len() {
-        let word = Word::split(row[place]);
-        if word.kind != SET {
+    for bits in words {
+        if !TableKind::Set.marks(*bits) {
             return sent;
         }
+        let word = Word::from(*bits);
         if let Some(setting) = Setting::new(word.field, word.value) {
             sent = sent.with(setting);
         }
@@ -35,85 +36,102 @@ fn applied(row: &[u32], from: usize, frame: Frame) -> Frame
     sent
 }
 
-// Whether two frames have the same values.
-fn same(a: &Frame, b: &Frame) -> bool
-    ensures { Decides result (a.now.values ≡ b.now.values) }
-{
-    a.values == b.values
+// A frame that a row sends on, and its weight.
+#[derive(Clone, Copy)]
+struct Sent {
+    frame: Frame,
+    weight: u32,
 }
 
-// The joined weight at which a row sends a frame on as another.
-fn weight_to<K: WeightKind>(row: &[u32], frame: Frame, target: Frame) -> u32
-    ensures { result ≡ weight_in K.WeightKind.ops target.values K.WeightKind.ops.zero (sends row.now frame.values) }
-{
-    let mut weight = K::zero();
-    for place in 0..row.len() {
-        let word = Word::split(row[place]);
-        if word.kind == WEIGHT {
-            let sent = applied(row, place + 1, frame);
-            if same(&sent, &target) {
-                weight = K::join(weight, word.value);
+// What a row sends for a frame: at each weight word, the frame that the set words behind it make.
+#[derive(Clone, Copy)]
+struct Emissions<'a> {
+    row: &'a [u32],
+    frame: Frame,
+}
+
+impl Iterator for Emissions<'_> {
+    type Item = Sent;
+
+    ghost next_gives = { YieldsFirstBy sent_of (λ s. sends s.row.now s.frame.values) };
+
+    ghost remaining = { item_count (λ s. sends s.row.now s.frame.values) };
+
+    fn next(&mut self) -> Option<Sent> {
+        while let Some((bits, later)) = self.row.split_first() {
+            self.row = later;
+            if TableKind::Weight.marks(*bits) {
+                return Some(Sent {
+                    frame: applied(later, self.frame),
+                    weight: Word::from(*bits).value,
+                });
             }
         }
+        None
     }
-    weight
 }
 
-// The least frame that a row sends and that comes after the last one.
-fn next_after(row: &[u32], frame: Frame, last: Option<Frame>) -> Option<Frame>
-    ensures { values_of result ≡ least (values_of last) None (sends row.now frame.values) }
-{
-    let mut best = None;
-    for place in 0..row.len() {
-        let word = Word::split(row[place]);
-        if word.kind == WEIGHT {
-            let sent = applied(row, place + 1, frame);
-            if is_between(&sent, last, best) {
-                best = Some(sent);
-            }
-        }
+impl Emissions<'_> {
+    // The joined weight at which a frame is sent.
+    fn weight_of<K: WeightKind>(self, target: Frame) -> u32
+        ensures { result ≡ weight_in K.WeightKind.ops target.values K.WeightKind.ops.zero (sends self.entry.row.now self.entry.frame.values) }
+    {
+        self.filter(|sent| sent.frame == target)
+            .fold(K::zero(), |weight, sent| K::join(weight, sent.weight))
     }
-    best
+
+    // The least frame that is sent and comes after the last one.
+    fn next_after(self, last: Option<Frame>) -> Option<Frame>
+        ensures { Next (values_of last) (sends self.entry.row.now self.entry.frame.values) (values_of result) }
+    {
+        self.map(|sent| sent.frame)
+            .filter(|sent| comes_after(sent, last))
+            .min()
+    }
 }
 
-// Whether a frame comes after one bound and before another, where there are any.
-fn is_between(frame: &Frame, low: Option<Frame>, high: Option<Frame>) -> bool
-    ensures { result ≡ (above (values_of low) frame.now.values && below frame.now.values (values_of high)) }
+// Whether a frame comes after the last one, if there is one.
+fn comes_after(frame: &Frame, last: Option<Frame>) -> bool
+    ensures { result ≡ above (values_of last) frame.now.values }
 {
-    let after = match low {
-        Some(low) => low.before(frame),
-        None => true,
-    };
-    let before = match high {
-        Some(high) => frame.before(&high),
-        None => true,
-    };
-    after && before
+    last.is_none_or(|last| last.before(frame))
 }
 
-// Writes an emitted frame from a place on: a weight word and the frame's words.
-fn write_sent(out: &mut [u32], at: usize, weight: u32, frame: &Frame)
-    requires { at + sent_length ≤ length out.old }
-    ensures { out.new ≡ take at out.old ++ (sent_words (record { frame = frame.entry.now.values; weight = value_of weight }) ++ drop (at + sent_length) out.old) }
+// An emitted frame in words: a weight word and the frame's words.
+fn sent_words(weight: u32, frame: &Frame) -> [u32; SENT_WORDS]
+    ensures { result ≡ sent_words (record { frame = frame.now.values; weight = value_of weight }) }
 {
+    let [a, b, c, d, e, f, g, h] = <[u32; WIDTH]>::from(frame);
     // A weight has 24 bits: the remainder is the weight itself.
-    out[at] = WEIGHT * KIND_UNIT + weight % VALUE_END;
-    let words = frame.words();
-    out[at + 1..at + SENT_WORDS].copy_from_slice(&words);
+    let first = TableWord {
+        kind: TableKind::Weight,
+        field: 0,
+        value: weight % VALUE_END,
+    };
+    [u32::from(first), a, b, c, d, e, f, g, h]
 }
 
-// Writes what a row sends for a frame, as far as there is room.
-fn send_row<K: WeightKind>(row: &[u32], frame: Frame, out: &mut [u32]) -> Result<usize, FrameFault>
-    ensures { MatchResult result (λ n. RowSent K.WeightKind.ops (sends row.now frame.values) out.old n out.new) (λ e. (e ≡ NoRoom) × RowFull (sends row.now frame.values) (length out.old)) }
+// Puts words at the front, if there is room. Tried: written in the loop below, through `out[count..].first_chunk_mut()`,
+// the check does not know these words afterwards.
+fn put(words: [u32; SENT_WORDS], room: &mut [u32]) -> Result<(), FrameFault>
+    ensures { MatchResult result (λ _. (sent_length ≤ length room.old) × (room.new ≡ words ++ drop sent_length room.old)) (λ e. (e ≡ NoRoom) × (length room.old < sent_length)) }
 {
+    *room.first_chunk_mut().ok_or(FrameFault::NoRoom)? = words;
+    Ok(())
+}
+
+// Writes what is sent, as far as there is room.
+fn send_all<K: WeightKind>(emissions: Emissions<'_>, out: &mut [u32]) -> Result<usize, FrameFault>
+    ensures { MatchResult result (λ n. RowSent K.WeightKind.ops (sends emissions.entry.row.now emissions.entry.frame.values) out.old n out.new) (λ e. (e ≡ NoRoom) × RowFull (sends emissions.entry.row.now emissions.entry.frame.values) (length out.old)) }
+{
+    // Tried: after a loop over `chunks_exact_mut`, or one that moves on to the rest from `split_first_chunk_mut`, the check
+    // knows none of the words of `out`. A `for` over `successors` is refused, which may have no end. So the words are
+    // counted and the last frame is kept here.
     let mut count = 0;
     let mut last = None;
-    while let Some(next) = next_after(row, frame, last) {
-        if out.len() - count < SENT_WORDS {
-            return Err(FrameFault::NoRoom);
-        }
-        let weight = weight_to::<K>(row, frame, next);
-        write_sent(out, count, weight, &next);
+    while let Some(next) = emissions.next_after(last) {
+        let words = sent_words(emissions.weight_of::<K>(next), &next);
+        put(words, &mut out[count..])?;
         count += SENT_WORDS;
         last = Some(next);
     }
@@ -124,26 +142,23 @@ impl<'a, K: WeightKind> CheckedTable<'a, K> {
     // Writes the answer to a frame, as far as there is room.
     fn answer(&self, frame: &[u32], out: &mut [u32]) -> Result<usize, FrameFault>
         ensures within { IfOk result (λ n. n ≤ length out.old) }
-        ensures exact { (rows : List Row) → LegalRows K.WeightKind.ops rows → self.now.words.now ≡ table_words rows → MatchResult result (λ n. Answered K.WeightKind.ops rows frame.now out.old n out.new) (λ e. Refused K.WeightKind.ops rows frame.now (length out.old) e) }
+        ensures exact { OfItsRows K.WeightKind.ops self.now.words.now (λ rows. MatchResult result (λ n. Answered K.WeightKind.ops rows frame.now out.old n out.new) (λ e. Refused K.WeightKind.ops rows frame.now (length out.old) e)) }
     {
-        let frame = Frame::read(frame)?;
+        let frame = Frame::try_from(frame)?;
         match self.lookup(&frame) {
-            Some(row) => send_row::<K>(row, frame, out),
+            Some(row) => send_all::<K>(Emissions { row, frame }, out),
             None => Ok(0),
         }
     }
 
     // Forwards a frame: each emitted frame once, its weights joined, ascending by values, as a weight word and the frame's words.
-    // The answer is the number of words written; a refusal leaves zeros.
+    // The answer is the number of words written into the memory, which is lent by a rule of the project; a refusal leaves zeros.
     pub fn forward(&self, frame: &[u32], out: &mut [u32]) -> Result<usize, FrameFault>
-        ensures exact { (rows : List Row) → LegalRows K.WeightKind.ops rows → self.now.words.now ≡ table_words rows → MatchResult result (λ n. Answered K.WeightKind.ops rows frame.now out.old n out.new) (λ e. Refused K.WeightKind.ops rows frame.now (length out.old) e) }
+        ensures exact { OfItsRows K.WeightKind.ops self.now.words.now (λ rows. MatchResult result (λ n. Answered K.WeightKind.ops rows frame.now out.old n out.new) (λ e. Refused K.WeightKind.ops rows frame.now (length out.old) e)) }
         ensures within { IfOk result (λ n. n ≤ length out.old) }
         ensures zeros { OnErr result (out.new ≡ replicate (length out.old) 0) }
     {
         let answer = self.answer(frame, out);
-        if answer.is_err() {
-            out.fill(0);
-        }
-        answer
+        zeros_if_refused(answer, out)
     }
 }

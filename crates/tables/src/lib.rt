@@ -3,18 +3,12 @@
 
 mod check;
 mod forward;
+mod kind;
 mod lookup;
 mod state;
+mod word;
 
 pub use check::{CheckedTable, check_table};
-
-// The kinds of a table's words.
-pub const HEAD: u32 = 10;
-
-pub const MATCH: u32 = 11;
-
-pub const WEIGHT: u32 = 12;
-
-pub const SET: u32 = 13;
-
-pub const END: u32 = 14;
+pub use forward::SENT_WORDS;
+pub use kind::{NoTableKind, TableKind};
+pub use word::TableWord;

@@ -1,13 +1,14 @@
 // The row that decides for a frame.
-ghost use Rattle.std.specs.Prelude.{◌≡◌, ℕ, ◌+◌, ◌≤◌, false, List, length, drop, MatchOption};
+ghost use Rattle.std.specs.Prelude.{◌≡◌, ◌≤◌, false, length, MatchOption};
+ghost use Rattle.std.specs.Iterator.{YieldsFirstRef, item_count};
 ghost use Rattle.std.specs.List.{AllByRecursion};
-ghost use Rattle.tables.specs.Rows.{Row, LegalRows, table_words};
+ghost use Rattle.tables.specs.Rows.{OfItsRows};
 ghost use Rattle.tables.specs.Emits.{holds};
-ghost use Rattle.tables.specs.Scans.{closes, body_length, words_hold};
+ghost use Rattle.tables.specs.Scans.{closes, body_length, word_holds, words_hold, rows_in};
 ghost use Rattle.tables.specs.Forwards.{Decides};
 
 use super::check::CheckedTable;
-use super::{END, HEAD, MATCH};
+use super::kind::TableKind;
 use format::Word;
 use frames::Frame;
 use weights::WeightKind;
@@ -16,51 +17,64 @@ use weights::WeightKind;
 fn closes_row(bits: u32) -> bool
     ensures { result ≡ closes bits }
 {
-    let kind = Word::split(bits).kind;
-    kind == HEAD || kind == END
+    TableKind::Head.marks(bits) || TableKind::End.marks(bits)
 }
 
-// The place behind a row: the next head or end.
-fn row_end(words: &[u32], from: usize) -> usize
-    requires { from ≤ length words.now }
-    ensures { (result ≡ from + body_length (drop from words.now)) × (result ≤ length words.now) }
+// How many words stand before the next head or end.
+fn body_length(words: &[u32]) -> usize
+    ensures { (result ≡ body_length words.now) × (result ≤ length words.now) }
 {
-    for place in from..words.len() {
-        if closes_row(words[place]) {
-            return place;
-        }
-    }
-    words.len()
+    words
+        .iter()
+        .position(|bits| closes_row(*bits))
+        .unwrap_or(words.len())
 }
 
 // Whether every match in a row's words holds.
 fn row_holds(row: &[u32], frame: &Frame) -> bool
     ensures { result ≡ words_hold row.now frame.now.values }
 {
-    for bits in row {
-        let word = Word::split(*bits);
-        if word.kind == MATCH && frame.value(word.field) != word.value {
-            return false;
+    row.iter().all(|bits| word_holds(*bits, frame))
+}
+
+// Whether a word is no match that fails.
+fn word_holds(bits: u32, frame: &Frame) -> bool
+    ensures { result ≡ word_holds bits frame.now.values }
+{
+    let word = Word::from(bits);
+    !TableKind::Match.marks(bits) || frame.value(word.field) == word.value
+}
+
+// The rows with which words begin, each as a part of them.
+#[derive(Drop)]
+struct Rows<'a> {
+    words: &'a [u32],
+}
+
+impl<'a> Iterator for Rows<'a> {
+    type Item = &'a [u32];
+
+    ghost next_gives = { YieldsFirstRef (λ s. rows_in s.words.now) };
+
+    ghost remaining = { item_count (λ s. rows_in s.words.now) };
+
+    fn next(&mut self) -> Option<&'a [u32]> {
+        let (head, body) = self.words.split_first()?;
+        if !TableKind::Head.marks(*head) {
+            return None;
         }
+        let (row, later) = self.words.split_at(1 + body_length(body));
+        self.words = later;
+        Some(row)
     }
-    true
 }
 
 impl<'a, K: WeightKind> CheckedTable<'a, K> {
     // The first row whose matches all hold, as a part of the table.
     pub fn lookup(&self, frame: &Frame) -> Option<&'a [u32]>
-        ensures { (rows : List Row) → LegalRows K.WeightKind.ops rows → self.now.words.now ≡ table_words rows → MatchOption result (AllByRecursion (λ x. holds x.matches frame.now.values ≡ false) rows) (λ found. Decides rows frame.now.values self.now.words.now found.now) }
+        ensures { OfItsRows K.WeightKind.ops self.now.words.now (λ rows. MatchOption result (AllByRecursion (λ x. holds x.matches frame.now.values ≡ false) rows) (λ found. Decides rows frame.now.values self.now.words.now found.now)) }
     {
-        let words = self.words;
-        let mut at = 0;
-        while at < words.len() && Word::split(words[at]).kind == HEAD {
-            let end = row_end(words, at + 1);
-            let row = &words[at..end];
-            if row_holds(row, frame) {
-                return Some(row);
-            }
-            at = end;
-        }
-        None
+        let mut rows = Rows { words: self.words };
+        rows.find(|row| row_holds(row, frame))
     }
 }

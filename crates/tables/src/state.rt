@@ -1,6 +1,8 @@
 // Where in a table its check stands.
+ghost use Rattle.std.specs.Prelude.{◌<◌};
+ghost use Rattle.format.specs.Words.{value_end};
 
-#[derive(Clone, Copy)]
+#[derive(Clone, Copy, Debug, PartialEq, Eq)]
 pub enum State {
     // A head or the end is next.
     Head,
@@ -12,4 +14,12 @@ pub enum State {
     Sets { from: u32, due: u32 },
     // The end was read.
     End,
+}
+
+// How far a check has come: its state, and how many heads it read.
+#[derive(Clone, Copy, Debug, PartialEq, Eq)]
+pub struct Checker {
+    pub state: State,
+    pub rows: u32,
+    ghost countable: { rows < value_end },
 }

@@ -1,39 +1,40 @@
 // The lexer: the tokens of a text one by one, each a part of the text with its place.
-ghost use Rattle.std.specs.Prelude.{◌≡◌, ◌+◌, ◌-◌, ◌<◌, ◌≤◌, length, drop, Some, None, MatchOption, ◌==◌, slice_index};
+ghost use Rattle.std.specs.Prelude.{◌≡◌, ◌<◌, ◌≤◌, length, None, MatchOption};
 ghost use Rattle.std.specs.List.{prefix_len};
 ghost use Rattle.tokens.specs.Lexing.{belongs_to, mark_of, says, front, Starts, Next};
 
 use super::tokens::{Class, Mark, Placed, Token};
 use faults::TokenFault;
 
-// Goes through a text from its start.
+// Goes through a text from its start. It keeps the whole text and where it is, since places count from the start.
 #[derive(Drop)]
 pub struct Lexer<'a> {
     text: &'a [u8],
     at: usize,
+    ghost inside: { at ≤ length text.now },
 }
 
-fn belongs(class: Class, b: u8) -> bool
-    ensures { result ≡ belongs_to class b }
-{
-    match class {
-        Class::Blank => b == 9 || b == 10 || b == 13 || b == 32,
-        Class::Letter => (b >= 97 && b <= 122) || (b >= 65 && b <= 90),
-        Class::Digit => b >= 48 && b <= 57,
+impl Class {
+    fn has(self, b: u8) -> bool
+        ensures { result ≡ belongs_to self b }
+    {
+        match self {
+            Class::Blank => matches!(b, b'\t' | b'\n' | b'\r' | b' '),
+            Class::Letter => b.is_ascii_alphabetic(),
+            Class::Digit => b.is_ascii_digit(),
+        }
+    }
+
+    // How many bytes of the class come first.
+    fn run_len(self, bytes: &[u8]) -> usize
+        ensures run { result ≡ prefix_len (belongs_to self) bytes.now }
+        ensures most { result ≤ length bytes.now }
+    {
+        bytes.iter().take_while(|b| self.has(**b)).count()
     }
 }
 
-// Where the longest run of bytes of a class ends that starts at `from`.
-fn run_end(text: &[u8], from: usize, class: Class) -> usize
-    ensures { result ≡ from + prefix_len (belongs_to class) (drop from text.now) }
-{
-    let mut at = from;
-    while at < text.len() && belongs(class, text[at]) {
-        at += 1;
-    }
-    at
-}
-
+// The mark of one byte. A `TryFrom` would be no plainer: its error could say no more than `None`.
 fn single_mark(b: u8) -> Option<Mark>
     ensures { result ≡ mark_of b }
 {
@@ -49,40 +50,22 @@ fn single_mark(b: u8) -> Option<Mark>
     }
 }
 
-// Whether a `=` stands after a place.
-fn assigns(text: &[u8], place: usize) -> bool
-    requires { place < length text.now }
-    ensures { result ≡ (slice_index text.now (place + 1) == 61) }
+// The token with which bytes begin, and how many bytes it has.
+fn front(bytes: &[u8]) -> Option<(Token<'_>, usize)>
+    ensures { MatchOption result (front bytes.now ≡ None) (λ t. Starts bytes.now (says t.0) t.1 × (0 < t.1) × (t.1 ≤ length bytes.now)) }
 {
-    if place + 1 >= text.len() {
-        return false;
-    }
-    text[place + 1] == b'='
-}
-
-// The token that starts at a place, and where it ends.
-fn token_at(text: &[u8], place: usize) -> Option<(Token<'_>, usize)>
-    requires { place < length text.now }
-    ensures { MatchOption result (front (drop place text.now) ≡ None) (λ t. Starts (drop place text.now) (says t.0) (t.1 - place) × (place < t.1)) }
-{
-    let b = text[place];
-    if belongs(Class::Letter, b) {
-        let end = run_end(text, place, Class::Letter);
-        return Some((Token::Word(&text[place..end]), end));
-    }
-    if belongs(Class::Digit, b) {
-        let end = run_end(text, place, Class::Digit);
-        return Some((Token::Number(&text[place..end]), end));
-    }
-    if b == b':' {
-        if assigns(text, place) {
-            return Some((Token::Mark(Mark::Assign), place + 2));
+    match bytes {
+        [b, ..] if Class::Letter.has(*b) => {
+            let size = Class::Letter.run_len(bytes);
+            Some((Token::Word(&bytes[..size]), size))
         }
-        return None;
-    }
-    match single_mark(b) {
-        Some(mark) => Some((Token::Mark(mark), place + 1)),
-        None => None,
+        [b, ..] if Class::Digit.has(*b) => {
+            let size = Class::Digit.run_len(bytes);
+            Some((Token::Number(&bytes[..size]), size))
+        }
+        [b':', b'=', ..] => Some((Token::Mark(Mark::Assign), 2)),
+        [b, ..] => Some((Token::Mark(single_mark(*b)?), 1)),
+        [] => None,
     }
 }
 
@@ -94,23 +77,20 @@ impl<'a> Lexer<'a> {
         Lexer { text, at: 0 }
     }
 
-    // The next token, or none at the text's end.
+    // The next token, or none at the text's end. An `impl Iterator` is no plainer: a lexer that refuses a token refuses it
+    // again at each call, so it has no end, a `for` may not run over it, and `next()?` would read `next().transpose()?`.
     pub fn next(&mut self) -> Result<Option<Placed<'a>>, TokenFault>
         ensures text { self.new.text.now ≡ self.old.text.now }
         ensures next { Next self.old.text.now self.old.at result self.new.at }
     {
-        let text = self.text;
-        let place = run_end(text, self.at, Class::Blank);
+        let place = self.at + Class::Blank.run_len(&self.text[self.at..]);
         self.at = place;
-        if place >= text.len() {
+        let rest = &self.text[place..];
+        if rest.is_empty() {
             return Ok(None);
         }
-        match token_at(text, place) {
-            Some((token, end)) => {
-                self.at = end;
-                Ok(Some(Placed { token, place }))
-            }
-            None => Err(TokenFault::NoToken(place)),
-        }
+        let (token, size) = front(rest).ok_or(TokenFault::NoToken(place))?;
+        self.at += size;
+        Ok(Some(Placed { token, place }))
     }
 }

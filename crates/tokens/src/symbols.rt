@@ -1,65 +1,34 @@
 // What a token stands for.
-ghost use Rattle.std.specs.Prelude.{◌≡◌, Decides};
-ghost use Rattle.std.specs.Str.{bytes_eq};
+ghost use Rattle.std.specs.Prelude.{◌≡◌};
 ghost use Rattle.tokens.specs.Lexing.{says};
 ghost use Rattle.tokens.specs.Symbols.{field_named, symbol_named, number_of, judged};
 
 use super::tokens::{Placed, Symbol, Token};
 use faults::TokenFault;
-use format::VALUE_END;
+use format::{FIELDS, VALUE_END, field_name};
 
 // A number has at most this many digits.
 const DIGITS_LIMIT: usize = 8;
 
-fn same(a: &[u8], b: &[u8]) -> bool
-    ensures { result ≡ bytes_eq a.now b.now }
-{
-    a == b
-}
-
 fn field_of(word: &[u8]) -> Option<u32>
     ensures { result ≡ field_named word.now }
 {
-    if same(word, b"sw") {
-        Some(0)
-    } else if same(word, b"pt") {
-        Some(1)
-    } else if same(word, b"vlan") {
-        Some(2)
-    } else if same(word, b"type") {
-        Some(3)
-    } else if same(word, b"srch") {
-        Some(4)
-    } else if same(word, b"srcl") {
-        Some(5)
-    } else if same(word, b"dsth") {
-        Some(6)
-    } else if same(word, b"dstl") {
-        Some(7)
-    } else {
-        None
-    }
+    (0..FIELDS).find(|field| word == field_name(*field).as_bytes())
 }
 
 fn word_symbol(word: &[u8]) -> Option<Symbol>
     ensures { result ≡ symbol_named word.now }
 {
-    if same(word, b"drop") {
-        return Some(Symbol::Drop);
-    }
-    if same(word, b"pass") {
-        return Some(Symbol::Pass);
-    }
-    if same(word, b"cost") {
-        return Some(Symbol::Cost);
-    }
-    match field_of(word) {
-        Some(field) => Some(Symbol::Field(field)),
-        None => None,
+    match word {
+        b"drop" => Some(Symbol::Drop),
+        b"pass" => Some(Symbol::Pass),
+        b"cost" => Some(Symbol::Cost),
+        _ => field_of(word).map(Symbol::Field),
     }
 }
 
-// The number that digits write, or none where they are too many or the number is too large.
+// The number that digits write, or none where they are too many or the number is too large. The definition is of any bytes, of
+// which `str::parse` would refuse some.
 fn number(digits: &[u8]) -> Option<u32>
     ensures { result ≡ number_of digits.now }
 {
@@ -77,16 +46,15 @@ fn number(digits: &[u8]) -> Option<u32>
 }
 
 impl Placed<'_> {
-    // What the token stands for.
+    // What the token stands for. As a `TryFrom` it would read `Symbol::try_from(placed)?`, no plainer than `placed.symbol()?`.
     pub fn symbol(self) -> Result<Symbol, TokenFault>
         ensures { result ≡ judged (says self.entry.token) self.entry.place }
     {
         match self.token {
             Token::Word(word) => word_symbol(word).ok_or(TokenFault::NoToken(self.place)),
-            Token::Number(digits) => match number(digits) {
-                Some(value) => Ok(Symbol::Number(value)),
-                None => Err(TokenFault::BigNumber(self.place)),
-            },
+            Token::Number(digits) => number(digits)
+                .map(Symbol::Number)
+                .ok_or(TokenFault::BigNumber(self.place)),
             Token::Mark(mark) => Ok(Symbol::Mark(mark)),
         }
     }

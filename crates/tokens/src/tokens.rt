@@ -1,6 +1,6 @@
 // What a policy text is made of.
 
-#[derive(Clone, Copy)]
+#[derive(Clone, Copy, Debug, PartialEq, Eq, Hash)]
 pub enum Mark {
     Plus,
     Semicolon,
@@ -13,7 +13,7 @@ pub enum Mark {
 }
 
 // A piece of the text: words and numbers are parts of it.
-#[derive(Clone, Copy)]
+#[derive(Clone, Copy, Debug, PartialEq, Eq, Hash)]
 pub enum Token<'a> {
     Word(&'a [u8]),
     Number(&'a [u8]),
@@ -21,14 +21,14 @@ pub enum Token<'a> {
 }
 
 // A token and the place of its first byte.
-#[derive(Clone, Copy)]
+#[derive(Clone, Copy, Debug, PartialEq, Eq, Hash)]
 pub struct Placed<'a> {
     pub token: Token<'a>,
     pub place: usize,
 }
 
-// A token by what it stands for.
-#[derive(Clone, Copy)]
+// A token by what it stands for. A field is its number, as in a setting.
+#[derive(Clone, Copy, Debug, PartialEq, Eq, Hash)]
 pub enum Symbol {
     Field(u32),
     Number(u32),
@@ -39,7 +39,7 @@ pub enum Symbol {
 }
 
 // Bytes that stand together: blanks between tokens, letters in a word, digits in a number.
-#[derive(Clone, Copy)]
+#[derive(Clone, Copy, Debug, PartialEq, Eq, Hash)]
 pub enum Class {
     Blank,
     Letter,

@@ -17,7 +17,7 @@ use Rattle.meaning.proofs.Simple.{apply_keep, apply_set}
 use Rattle.meaning.specs.Diagrams.{Diagram, Leaf, Node, narrows, reach, emits, weigh}
 use Rattle.meaning.specs.Constructions.{Compiles, join_by, join, choose_by, choose, prefix, sequence_cells, sequence, negate, round, tests, sets, costs, nots, unions, sequences, stars, test_diagram, single, pass_diagram, drop_diagram}
 use Rattle.listing.specs.Rows.{rows_of}
-use Rattle.listing.proofs.Leaves.{eqb_yes}
+use Rattle.std.proofs.lemmas.Bool.{eq-eqb}
 use Rattle.tables.specs.Emits.{Sent, Answer, In, same}
 use Rattle.tables.specs.Emits as Table
 use Rattle.tables.proofs.Scans.{same_decides}
@@ -101,7 +101,7 @@ again_weighs s h = λ i. max (kept reach_ops s 3 1 3 h i) (max (moved_to reach_o
 
 same_self : (s : Frame) → same s s ≡ true
 same_self [] = refl
-same_self (n ∷ s) = ap₂ ◌&&◌ (eqb_yes n n refl) (same_self s)
+same_self (n ∷ s) = ap₂ ◌&&◌ (eq-eqb n n refl) (same_self s)
 
 -- two emissions of one frame join to one
 joined_once : (b : Bool) → cond b (max (cond b (max 0 1) 0) 1) (cond b (max 0 1) 0) ≡ cond b 1 0

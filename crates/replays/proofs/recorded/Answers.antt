@@ -1,27 +1,27 @@
-use Rattle.std.proofs.Common.{vec_items, ap, ◌∙◌, rules}
-use Rattle.faults.specs.Lines.{refused_line}
-use Rattle.numerals.proofs.Appended.{made_then}
-use Rattle.replays.proofs.Records.{Legal, RefusedAt, case_ok, case_err, table_refused}
+use Rattle.std.proofs.Common.{ap, ◌∙◌, string_bytes, vec_len}
+use Rattle.std.proofs.lemmas.Result.{IfOk-weaker}
+use Rattle.tables.proofs.Unique.{table_rows}
+use Rattle.replays.proofs.Records.{recorded}
 use Rattle.replays.proofs.recorded.Goals as goal
 
-pub replayed-requires : goal.replayed-requires
-replayed-requires g c =
-    let o = g.K.WeightKind.ops
-    in let t = case_ok (λ t. Legal o t.words.now c.args.words.now) (RefusedAt o c.args.words.now) c.in-Ok.is c.requires
-    in (search rules, (t.1, t.0))
-
-pub returns-in-Err : goal.returns-in-Err
-returns-in-Err g c =
-    let o = g.K.WeightKind.ops
-    in made_then
-    c.refused_line.result
+pub returns : goal.returns
+returns g c =
+    let table = c.args.table.words.now
+    in let rows = table_rows g.met.K.WeightKind.lawful table c.args.table.legal
+    in let begun = c.in_ok-new.ensures
+    in IfOk-weaker c.frames.result _ _
     (λ v said.
-    table_refused
-    o
-    c.args.words.now
+    recorded
+    g.K.WeightKind.ops
+    rows.0
+    table
     c.args.frames.now
-    (vec_items v)
-    c.in-Err.fault
-    (case_err (λ t. Legal o t.words.now c.args.words.now) (RefusedAt o c.args.words.now) c.in-Err.is c.requires)
-    (said ∙ ap refused_line c.shown.ensures))
-    c.refused_line.ensures
+    (string_bytes c.in_ok-new.field-0.text)
+    (string_bytes v)
+    (vec_len c.in_ok-new.field-0.memory)
+    rows.1
+    rows.2
+    begun.2
+    begun.1
+    (said rows.0 rows.1 (ap (λ w. w.now) begun.0 ∙ rows.2)))
+    c.frames.ensures

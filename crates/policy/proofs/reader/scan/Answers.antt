@@ -7,4 +7,4 @@ pub returns-then-text-gt-TEXT_LIMIT : goal.returns-then-text-gt-TEXT_LIMIT
 returns-then-text-gt-TEXT_LIMIT c = Rejected.too_long (omega arith)
 
 pub returns : goal.returns
-returns c = scanned c.args.text.now c.args.out.now c.parse.new.out c.parse.result (omega arith) c.parse.ensures
+returns c = search (arith, scanned)

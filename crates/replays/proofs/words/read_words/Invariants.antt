@@ -1,10 +1,13 @@
-use Rattle.std.proofs.Common.{◌≡◌, ◌-◌, ◌≤◌, ◌++◌, length, drop, vec_items}
+use Rattle.std.proofs.Common.{◌≡◌, ◌++◌, vec_items}
+use Rattle.std.specs.Slice.Iter.{chunks_rest, chunks_size}
 use Rattle.replays.specs.Bytes.{words_of}
 use Rattle.replays.proofs.words.read_words.Given as goal
 
-abbrev pub invariant-loop-at : goal.invariant-loop-at
-invariant-loop-at l =
-    (l.at ≤ length l.bytes) × (vec_items l.words ++ words_of (drop l.at l.bytes) ≡ words_of l.bytes)
-
-abbrev pub decreases-loop-at : goal.decreases-loop-at
-decreases-loop-at l = length l.bytes - l.at
+abbrev pub invariant-loop-four : goal.invariant-loop-four
+invariant-loop-four l =
+    record {
+      can_next : goal.iterator-loop-four.can_next l.four-iterator;
+      is_finite : goal.iterator-loop-four.is_finite l.four-iterator;
+      size : chunks_size l.four-iterator ≡ 4;
+      read : vec_items l.words ++ words_of (chunks_rest l.four-iterator) ≡ words_of l.bytes;
+    }

@@ -1,29 +1,11 @@
-use Rattle.std.proofs.Common.{get_or, sym, ap, ◌∙◌, arith}
-use Rattle.tables.proofs.Scans.{hold_more, hold_fails, hold_none}
+use Rattle.std.proofs.Common.{rules, tests, ◌∙◌}
+use Rattle.std.proofs.lemmas.Iterator.{YieldsList-from_slice}
+use Rattle.std.proofs.lemmas.Iterator.Search.{all_from_yields_List}
+use Rattle.tables.specs.Scans.{word_holds}
+use Rattle.tables.proofs.Scans.{all_hold}
 use Rattle.tables.proofs.lookup.row_holds.Goals as goal
-use Rattle.tables.proofs.lookup.row_holds.Goals.{else-word-eq-MATCH-via-then-word-eq-MATCH+else-value-word, else-word-eq-MATCH-via-else-word-eq-MATCH}
-
-pub returns-then-value-word : goal.returns-then-value-word
-returns-then-value-word c =
-    let s = c.args.frame.now.values in
-    let e = c.split-word.ensures in
-    sym
-    (hold_fails c.args.row.now s c.loop-bits.bits-index c.loop-bits-test.true (sym e.kind ∙ c.if-word-eq-MATCH.true)
-    (λ h. c.if-value-word.true (c.value.ensures ∙ ap (λ f. get_or s f 0) e.field ∙ h ∙ sym e.value))) ∙
-    c.loop-bits.invariant
-
-pub loop-bits-preserved : goal.loop-bits-preserved
-loop-bits-preserved c =
-    let s = c.args.frame.now.values in
-    let e = c.split-word.ensures in
-    sym
-    (hold_more c.args.row.now s c.loop-bits.bits-index c.loop-bits-test.true λ k.
-    elim c.else-word-eq-MATCH.branch [
-      | else-word-eq-MATCH-via-then-word-eq-MATCH+else-value-word w ↦
-          ap (λ f. get_or s f 0) (sym e.field) ∙ sym w.value.ensures ∙ w.if-value-word.false ∙ e.value
-      | else-word-eq-MATCH-via-else-word-eq-MATCH w ↦ absurd (w.if-word-eq-MATCH.false (e.kind ∙ k))
-    ]) ∙
-    c.loop-bits.invariant
 
 pub returns : goal.returns
-returns c = sym (hold_none c.args.row.now c.args.frame.now.values c.loop-bits.bits-index (omega arith)) ∙ c.loop-bits.invariant
+returns c =
+    all_from_yields_List (λ w. word_holds w c.args.frame.now.values) _ _ _ c.all.ensures.ran (YieldsList-from_slice c.args.row.now cc) (λ x b q k. search (rules, tests)) ∙
+    all_hold c.args.row.now c.args.frame.now.values

@@ -1,21 +1,11 @@
-use Rattle.std.proofs.Common.{◌<◌, ◌≤◌, length, sym, ◌∙◌, arith}
-use Rattle.frames.proofs.Order.{before_equal, before_differs, before_end}
+use Rattle.std.proofs.Common.{refl, arith}
+use Rattle.std.proofs.lemmas.Bool.Decides.{nat_tests}
+use Rattle.std.proofs.lemmas.Cmp.{same_from_slice_cmp_tested}
+use Rattle.std.specs.Ordering.{nat_cmp, is_lt}
+use Rattle.frames.specs.Frames.{before}
 use Rattle.frames.proofs.frame.Frame.before.Goals as goal
-
-pub loop-field-preserved : goal.loop-field-preserved
-loop-field-preserved c =
-    let l : c.loop-field.field < length c.args.self.now.values = omega arith in
-    let m : c.loop-field.field < length c.args.other.now.values = omega arith in
-    sym (before_equal c.args.self.now.values c.args.other.now.values c.loop-field.field l m c.if-self-field.false) ∙ c.loop-field.invariant
-
-pub returns-then-self-field : goal.returns-then-self-field
-returns-then-self-field c =
-    let l : c.loop-field.field < length c.args.self.now.values = omega arith in
-    let m : c.loop-field.field < length c.args.other.now.values = omega arith in
-    sym (before_differs c.args.self.now.values c.args.other.now.values c.loop-field.field l m c.if-self-field.true) ∙ c.loop-field.invariant
 
 pub returns : goal.returns
 returns c =
-    let l : length c.args.self.now.values ≤ c.loop-field.field = omega arith in
-    let m : length c.args.other.now.values ≤ c.loop-field.field = omega arith in
-    sym (before_end c.args.self.now.values c.args.other.now.values c.loop-field.field l m) ∙ c.loop-field.invariant
+    let told = same_from_slice_cmp_tested nat_cmp is_lt before refl (λ _ _. refl) (λ _ _. refl) (λ x y xs ys o h. grind (arith, nat_tests)) in
+    told c.args.self.now.values c.args.other.now.values c.lt.result c.lt.ensures
