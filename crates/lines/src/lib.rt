@@ -4,6 +4,9 @@
 ghost use Rattle.std.specs.Prelude.{◌≡◌, Some};
 ghost use Rattle.lines.specs.Lines.{table_word_said, frame_word_said, table_lines, spaced_hex, words_line};
 
+mod bytes;
+
+pub use bytes::{push_line, push_number};
 use format::{FIELDS, Word, field_name};
 use frames::FRAME_KIND;
 use numerals::{Decimal, Hex, write_each};
