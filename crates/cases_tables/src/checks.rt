@@ -7,8 +7,10 @@ use weights::{Cost, Reach, WeightKind};
 
 // The place at which words are refused as a table of the kind K.
 fn refused_at<K: WeightKind>(words: &[u32]) -> Option<usize> {
-    let TableFault::Illegal(place) = check_table::<K>(words).err()?;
-    Some(place)
+    match check_table::<K>(words).err()? {
+        TableFault::Illegal(place) => Some(place),
+        TableFault::Full => None,
+    }
 }
 
 #[test]

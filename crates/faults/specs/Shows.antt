@@ -17,6 +17,9 @@ use Rattle.faults.specs.declared.layers.StoreFault.{StoreFault}
 use Rattle.faults.specs.declared.layers.StoreFault.TheVariants.{Full, NotHeld, BadMemory}
 use Rattle.faults.specs.declared.layers.TableFault.{TableFault}
 use Rattle.faults.specs.declared.layers.TableFault.TheVariants.{Illegal}
+use Rattle.faults.specs.declared.layers.TableFault.TheVariants as table
+use Rattle.faults.specs.declared.layers.BenchFault.{BenchFault}
+use Rattle.faults.specs.declared.layers.BenchFault.TheVariants as bench
 use Rattle.faults.specs.declared.layers.FrameFault.{FrameFault}
 use Rattle.faults.specs.declared.layers.FrameFault.TheVariants as frame
 
@@ -47,6 +50,7 @@ compile_shown (Check f) = check_shown f
 
 abbrev pub table_shown : TableFault → Shown
 table_shown (Illegal p) = shown 15 5 p
+table_shown table.Full = shown 11 5 0
 
 abbrev pub frame_shown : FrameFault → Shown
 frame_shown frame.Length = shown 12 6 fields
@@ -64,3 +68,9 @@ abbrev pub store_shown : StoreFault → Shown
 store_shown Full = shown 9 4 0
 store_shown (NotHeld p) = shown 10 4 p
 store_shown (BadMemory m) = shown 14 4 (memory_number m)
+
+abbrev pub bench_shown : BenchFault → Shown
+bench_shown (bench.Text f) = compile_shown f
+bench_shown (bench.Store f) = store_shown f
+bench_shown (bench.Table f) = table_shown f
+bench_shown (bench.Frame f) = frame_shown f

@@ -2,6 +2,7 @@
 ghost use Rattle.std.specs.Prelude.{◌≡◌};
 ghost use Rattle.faults.specs.declared.layers.GrammarFault.TheVariants.{Token};
 ghost use Rattle.faults.specs.declared.layers.CompileFault.TheVariants.{Text, Check};
+ghost use Rattle.faults.specs.declared.layers.BenchFault.TheVariants.{Text as BenchText, Store, Table, Frame};
 
 // Why a text has no token at a byte. The number is the place of the token's first byte.
 #[derive(Clone, Copy, Debug, PartialEq, Eq, Hash)]
@@ -68,10 +69,13 @@ pub enum CompileFault {
     Check(CheckFault),
 }
 
-// Why words are no legal table: no legal table begins with the words up to this one, or they end here too early.
+// Why words are no legal table, or a table is not put in force.
 #[derive(Clone, Copy, Debug, PartialEq, Eq, Hash)]
 pub enum TableFault {
+    // No legal table begins with the words up to this one, or they end here too early.
     Illegal(usize),
+    // The table is longer than its memory.
+    Full,
 }
 
 // Why a frame cannot be forwarded.
@@ -83,6 +87,15 @@ pub enum FrameFault {
     BadWord(usize),
     // The emitted frames do not fit the memory.
     NoRoom,
+}
+
+// Why a call is refused, or the text that it would compile: the fault of whichever layer refused it.
+#[derive(Clone, Copy, Debug, PartialEq, Eq, Hash)]
+pub enum BenchFault {
+    Text(CompileFault),
+    Store(StoreFault),
+    Table(TableFault),
+    Frame(FrameFault),
 }
 
 // By a rule of the project a fault goes up by `From` and `?`, so each step has its own impl.
@@ -107,5 +120,37 @@ impl From<CheckFault> for CompileFault {
 
     fn from(fault: CheckFault) -> CompileFault {
         CompileFault::Check(fault)
+    }
+}
+
+impl From<CompileFault> for BenchFault {
+    ghost from_gives = { λ e r. r ≡ BenchText e };
+
+    fn from(fault: CompileFault) -> BenchFault {
+        BenchFault::Text(fault)
+    }
+}
+
+impl From<StoreFault> for BenchFault {
+    ghost from_gives = { λ e r. r ≡ Store e };
+
+    fn from(fault: StoreFault) -> BenchFault {
+        BenchFault::Store(fault)
+    }
+}
+
+impl From<TableFault> for BenchFault {
+    ghost from_gives = { λ e r. r ≡ Table e };
+
+    fn from(fault: TableFault) -> BenchFault {
+        BenchFault::Table(fault)
+    }
+}
+
+impl From<FrameFault> for BenchFault {
+    ghost from_gives = { λ e r. r ≡ Frame e };
+
+    fn from(fault: FrameFault) -> BenchFault {
+        BenchFault::Frame(fault)
     }
 }

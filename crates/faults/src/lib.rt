@@ -3,14 +3,15 @@
 
 ghost use Rattle.std.specs.Prelude.{◌≡◌, Some};
 ghost use Rattle.faults.specs.Lines.{refused_line};
-ghost use Rattle.faults.specs.Shows.{shown, token_shown, grammar_shown, check_shown, compile_shown, store_shown, table_shown, frame_shown};
+ghost use Rattle.faults.specs.Shows.{shown, token_shown, grammar_shown, check_shown, compile_shown, bench_shown, store_shown, table_shown, frame_shown};
 
 mod layers;
 mod refusals;
 
 use format::{FIELDS, TEXT_LIMIT, WORDS_LIMIT};
 pub use layers::{
-    CheckFault, CompileFault, FrameFault, GrammarFault, Memory, StoreFault, TableFault, TokenFault,
+    BenchFault, CheckFault, CompileFault, FrameFault, GrammarFault, Memory, StoreFault, TableFault,
+    TokenFault,
 };
 use numerals::Decimal;
 pub use refusals::zeros_if_refused;
@@ -123,8 +124,11 @@ impl From<TableFault> for Shown {
     ghost from_gives = { λ f s. s ≡ table_shown f };
 
     fn from(fault: TableFault) -> Shown {
-        let TableFault::Illegal(place) = fault;
-        Shown::of(15, 5, place)
+        let (number, place) = match fault {
+            TableFault::Illegal(place) => (15, place),
+            TableFault::Full => (11, 0),
+        };
+        Shown::of(number, 5, place)
     }
 }
 
@@ -138,5 +142,18 @@ impl From<FrameFault> for Shown {
             FrameFault::NoRoom => (13, 0),
         };
         Shown::of(number, 6, place)
+    }
+}
+
+impl From<BenchFault> for Shown {
+    ghost from_gives = { λ f s. s ≡ bench_shown f };
+
+    fn from(fault: BenchFault) -> Shown {
+        match fault {
+            BenchFault::Text(fault) => Shown::from(fault),
+            BenchFault::Store(fault) => Shown::from(fault),
+            BenchFault::Table(fault) => Shown::from(fault),
+            BenchFault::Frame(fault) => Shown::from(fault),
+        }
     }
 }

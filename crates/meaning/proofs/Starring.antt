@@ -397,3 +397,11 @@ named_by_values d = record { tests = values_tests d; sets = values_sets d }
 -- the rounds of every well-formed diagram end
 pub rounds_end : {o : Ops} → Laws o → (d : Diagram) → Formed o d → (k : ℕ) × (round o d k ≡ round o d (suc k))
 rounds_end L d hd = (enough_rounds (λ f. values d) L d hd (named_by_values d), star_ends (λ f. values d) L d hd (named_by_values d))
+
+-- as many rounds as there are frames of the diagram's values
+unfoldable pub rounds_bound : Diagram → ℕ
+rounds_bound d = length (frames_among fields (λ f. 0 ∷ values d))
+
+pub rounds_end_by : {o : Ops} → Laws o → (d : Diagram) → Formed o d → round o d (rounds_bound d) ≡ round o d (suc (rounds_bound d))
+unfolding enough_rounds rounds_bound
+rounds_end_by L d hd = star_ends (λ f. values d) L d hd (named_by_values d)

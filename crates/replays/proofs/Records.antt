@@ -3,7 +3,7 @@ use Rattle.std.proofs.Common.{◌≡◌, ℕ, ◌*◌, List, ◌++◌, length, s
 use Rattle.faults.specs.Lines.{refused_line}
 use Rattle.faults.specs.Shows.{table_shown}
 use Rattle.faults.specs.declared.layers.TableFault.{TableFault}
-use Rattle.faults.specs.declared.layers.TableFault.TheVariants.{Illegal}
+use Rattle.faults.specs.declared.layers.TableFault.TheVariants.{Illegal, Full}
 use Rattle.weights.specs.Weights.{Ops}
 use Rattle.tables.specs.Checking.{Stops}
 use Rattle.tables.specs.Rows.{Row, LegalRows, table_words}
@@ -28,7 +28,7 @@ recorded o rows table frames mid is room legal e f r t =
 
 -- the place where a table is refused
 abbrev pub RefusedAt : Ops → List ℕ → TableFault → Type 0
-RefusedAt o ws fault = elim fault [ Illegal i ↦ Stops o ws i ]
+RefusedAt o ws fault = elim fault [ Illegal i ↦ Stops o ws i | Full ↦ ⊥ ]
 
 pub table_refused :
     (o : Ops) (table frames text : List ℕ) (fault : TableFault) →
@@ -37,3 +37,4 @@ pub table_refused :
     Record o table frames text
 table_refused o table frames text (Illegal i) stops e =
     let Q : List ℕ → Type 0 = λ t. Record o table frames t in subst Q (sym e) (Record.no_table i stops)
+table_refused o table frames text Full stops e = absurd stops

@@ -2,7 +2,7 @@
 #![tactic(auto)]
 
 ghost use Rattle.std.specs.Prelude.{◌≡◌, ℕ, ◌*◌, List, length, IfOk, OnOk, string_bytes, vec_len};
-ghost use Rattle.faults.specs.declared.layers.TableFault.TheVariants.{Illegal};
+ghost use Rattle.faults.specs.declared.layers.TableFault.TheVariants.{Illegal, Full};
 ghost use Rattle.weights.specs.Weights.{Ops};
 ghost use Rattle.tables.specs.Checking.{Stops};
 ghost use Rattle.tables.specs.Emits.{sent_length};
@@ -93,7 +93,7 @@ fn recorded<K: WeightKind>(
 
 // The record of a table that is refused, whatever the frames.
 fn refused(heap: Global, fault: TableFault) -> Result<String, AllocError>
-    ensures { (o : Ops) (table frames : List ℕ) → elim fault [ Illegal i ↦ Stops o table i ] → IfOk result (λ s. Record o table frames (string_bytes s)) }
+    ensures { (o : Ops) (table frames : List ℕ) → elim fault [ Illegal i ↦ Stops o table i | Full ↦ ⊥ ] → IfOk result (λ s. Record o table frames (string_bytes s)) }
 {
     Shown::from(fault).to_string(heap)
 }

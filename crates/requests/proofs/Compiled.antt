@@ -41,7 +41,7 @@ module _ {o : Ops} (L : Laws o) where
         no_after = negate_tests (After f n) z h.0.no_greater_tests;
       }
 
-  negate_formed : (d : Diagram) → Formed o d → Formed o (negate o d)
+  pub negate_formed : (d : Diagram) → Formed o d → Formed o (negate o d)
   unfolding negate
   negate_formed (Leaf l) h = choice_both (Formed o) (equal_diagrams (Leaf l) drop_diagram) _ _ (λ e. pass_formed L) (λ e. choice_both (Formed o) (equal_diagrams (Leaf l) (pass_diagram o)) _ _ (λ e. drop_is_formed L) (λ e. h))
   negate_formed (Node f n y z) h =

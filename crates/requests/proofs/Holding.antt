@@ -10,24 +10,24 @@ use Rattle.requests.specs.Requests.{Request, node, leaf_records, Records}
 use Rattle.requests.specs.Rules.{Narrows, narrows_leaf, narrows_yes, narrows_no, narrows_both, Makes, makes_no, makes_node, At, at_root, at_other, Joins, joins_leaves, joins_split, Chooses, chooses_here, chooses_same_field, chooses_other_field, Prefixes, prefixes_leaf, prefixes_yes, prefixes_no, prefixes_both, Follows, follows_none, follows_next, Sequences, sequences_leaf, sequences_node, pass_cells, Negates, negates_drop, negates_pass, negates_other, negates_node, Rounds, rounds_end, rounds_on, Stars, stars_rounds, Compiled, compiled_drop, compiled_pass, compiled_test, compiled_set, compiled_cost, compiled_not, compiled_union, compiled_sequence, compiled_star}
 
 module _ (H : Request → Type 0) where
-  two : (a b : List Request) → Each H (a ++ b) → Each H a × Each H b
+  pub two : (a b : List Request) → Each H (a ++ b) → Each H a × Each H b
   two [] b h = (tt, h)
   two (q ∷ a) b h = let x = two a b h.1 in ((h.0, x.0), x.1)
 
-  three : (a b c : List Request) → Each H (a ++ (b ++ c)) → Each H a × Each H b × Each H c
+  pub three : (a b c : List Request) → Each H (a ++ (b ++ c)) → Each H a × Each H b × Each H c
   three a b c h =
       let x = two a (b ++ c) h in
       let y = two b c x.1 in
       (x.0, y.0, y.1)
 
-  five : (a b c d e : List Request) → Each H (a ++ (b ++ (c ++ (d ++ e)))) → Each H a × Each H b × Each H c × Each H d × Each H e
+  pub five : (a b c d e : List Request) → Each H (a ++ (b ++ (c ++ (d ++ e)))) → Each H a × Each H b × Each H c × Each H d × Each H e
   five a b c d e h =
       let x = two a (b ++ (c ++ (d ++ e))) h in
       let y = two b (c ++ (d ++ e)) x.1 in
       let z = three c d e y.1 in
       (x.0, y.0, z.0, z.1, z.2)
 
-  off_hold : (d : Diagram) (f n : ℕ) → Records H d → Records H (off d f n)
+  pub off_hold : (d : Diagram) (f n : ℕ) → Records H d → Records H (off d f n)
   off_hold (Leaf l) f n k = k
   off_hold (Node g m y z) f n k = choice_both (Records H) (equal_tests g m f n) z (Node g m y z) (λ e. k.2) (λ e. k)
 
@@ -47,7 +47,7 @@ module _ {o : Ops} (H : Request → Type 0) where
         let x = three H a b (node f n v z ∷ []) h in
         (x.2.0, narrows_hold s x.0 k, j)
 
-  at_hold : {d : Diagram} {f n : ℕ} {r : Diagram} {a : List Request} → At o d f n r a → Each H a → Records H d → Records H r
+  pub at_hold : {d : Diagram} {f n : ℕ} {r : Diagram} {a : List Request} → At o d f n r a → Each H a → Records H d → Records H r
   at_hold (at_root p q) h k = k.1
   at_hold (at_other e s) h k = narrows_hold s h k
 
@@ -74,7 +74,7 @@ module _ {o : Ops} (H : Request → Type 0) where
       let x = three H a b c h in
       makes_hold m x.2 (prefixes_hold p x.0 k.1) (prefixes_hold q x.1 k.2)
 
-  follows_hold : {e d r : Diagram} {l : List Cell} {a : List Request} → Follows o e d l r a → Each H a → Records H e → Records H d → Records H r
+  pub follows_hold : {e d r : Diagram} {l : List Cell} {a : List Request} → Follows o e d l r a → Each H a → Records H e → Records H d → Records H r
   follows_hold follows_none h j k = k
   follows_hold (follows_next {a = a} {b = b} {g = g} p i f) h j k =
       let x = three H a b g h in
@@ -94,7 +94,7 @@ module _ {o : Ops} (H : Request → Type 0) where
       let x = three H a b c h in
       makes_hold m x.2 (negates_hold p x.0 k.1) (negates_hold q x.1 k.2)
 
-  rounds_hold : {d s r : Diagram} {a : List Request} → Rounds o d s r a → Each H a → Each H (leaf_records (pass_cells o)) → Records H d → Records H s → Records H r
+  pub rounds_hold : {d s r : Diagram} {a : List Request} → Rounds o d s r a → Each H a → Each H (leaf_records (pass_cells o)) → Records H d → Records H s → Records H r
   rounds_hold (rounds_end p j e) h u k i = i
   rounds_hold (rounds_on {a = a} {b = b} {c = c} p j e f) h u k i =
       let x = three H a b c h in

@@ -186,7 +186,7 @@ module _ (o : Ops) where
           side (yes h) = (u, a, prefixes_yes e h p)
           side (no h) = (v, b, prefixes_no e h q)
 
-  follow_total : (e : Diagram) (l : List Cell) (d : Diagram) → AtLeastOne (Follows o e d l)
+  pub follow_total : (e : Diagram) (l : List Cell) (d : Diagram) → AtLeastOne (Follows o e d l)
   follow_total e [] d = (d, [], follows_none)
   follow_total e (c ∷ l) d =
       let P = prefix_total c.0 c.1 e in

@@ -1,6 +1,6 @@
 // The check of a table, word by word.
 ghost use Rattle.std.specs.Prelude.{◌≡◌, ◌+◌, ◌<◌, ◌≤◌, MatchResult};
-ghost use Rattle.faults.specs.declared.layers.TableFault.TheVariants.{Illegal};
+ghost use Rattle.faults.specs.declared.layers.TableFault.TheVariants.{Illegal, Full};
 ghost use Rattle.format.specs.Fields.{fields};
 ghost use Rattle.format.specs.Words.{word, value_end};
 ghost use Rattle.weights.specs.Weights.{Ops, Laws};
@@ -20,7 +20,7 @@ use weights::WeightKind;
 #[derive(Drop)]
 pub struct CheckedTable<'a, K: WeightKind> {
     pub(crate) words: &'a [u32],
-    kind: PhantomData<K>,
+    pub(crate) kind: PhantomData<K>,
     ghost legal: { ∥ LegalTable K.WeightKind.ops words.now ∥₁ },
 }
 
@@ -166,7 +166,7 @@ impl Checker {
 // Words as a table of the kind K, or the place where they are none. As a `TryFrom` this would be no plainer: the name
 // says what is done.
 pub fn check_table<'a, K: WeightKind>(words: &'a [u32]) -> Result<CheckedTable<'a, K>, TableFault>
-    ensures { MatchResult result (λ t. (t.words.now ≡ words.now) × LegalTable K.WeightKind.ops words.now) (λ e. elim e [ Illegal i ↦ Stops K.WeightKind.ops words.now i ]) }
+    ensures { MatchResult result (λ t. (t.words.now ≡ words.now) × LegalTable K.WeightKind.ops words.now) (λ e. elim e [ Illegal i ↦ Stops K.WeightKind.ops words.now i | Full ↦ ⊥ ]) }
 {
     let mut checker = Checker::start();
     for (place, bits) in words.iter().enumerate() {

@@ -2,6 +2,7 @@
 #![tactic(auto)]
 
 mod check;
+mod force;
 mod forward;
 mod kind;
 mod lookup;
@@ -9,6 +10,7 @@ mod state;
 mod word;
 
 pub use check::{CheckedTable, check_table};
+pub use force::TableInForce;
 pub use forward::SENT_WORDS;
 pub use kind::{NoTableKind, TableKind};
 pub use word::TableWord;

@@ -1,0 +1,209 @@
+-- What a construction over the stores is to a bench. Assumes nothing.
+use Rattle.std.proofs.Common.{◌≡◌, ℕ, zero, suc, ◌<◌, ◌≤◌, ◌⊎◌, true≢false, List, [], ◌∷◌, ◌++◌, length, Some, None, Option, sym, refl, ap, ◌∙◌, subst, inl, inr, arith}
+use lib.ListN.{length-map}
+use Rattle.std.specs.List.{slice_get}
+use Rattle.format.specs.Words.{value_end, word, kind_of, field_of, value_of}
+use Rattle.weights.specs.Order.{In}
+use Rattle.meaning.specs.Leaves.{Action as MAction, Cell as MCell}
+use Rattle.meaning.specs.Diagrams.{Diagram as MDiagram, Leaf as MLeaf, Node as MNode}
+use Rattle.requests.specs.Requests.{Request, action, cell, node}
+use Rattle.stores.specs.Numbers.{Numbered, Distinct}
+use Rattle.format.specs.declared.settings.Amount.{Amount}
+use Rattle.records.specs.declared.kinds.Diagram.{Diagram}
+use Rattle.records.specs.declared.kinds.Diagram.TheVariants.{Leaf, Branch}
+use Rattle.records.specs.Words.{word_of, Held as WordHeld}
+use Rattle.counts.specs.declared.counts.Counts.{Counts}
+use Rattle.counts.specs.declared.memory.Sizes.{Sizes}
+use Rattle.counts.specs.Memory.{AllFit}
+use Rattle.diagrams.specs.declared.memory.Stores.{Stores}
+use Rattle.diagrams.specs.Tests.{Contents, contents, SameMemory}
+use Rattle.stored.specs.Stored.{Stored, diagram}
+use Rattle.stored.specs.Grows.{Fits, Adds, Grows, LeafAmong, NodeAmong, size}
+use Rattle.stored.proofs.Numbers.{in_each, in_behind, not_before}
+use Rattle.stored.proofs.Growth.{Standing, a_leaf, a_node, standing, stands}
+use Rattle.engine.specs.Built.{numbered_or}
+use Rattle.engine.specs.State.{State, state, diagram_of, Present, Names, Has, Sound, Grown}
+use Rattle.engine.specs.Done.{Kind, actions, cells, nodes, rooms, Added, Over, Good, Kept, Made}
+use Rattle.engine.proofs.Numbers.{numbered_any, numbered_value, numbered_bound}
+use Rattle.engine.proofs.Decoding.{leaf_full, node_whole, nodes_long, leaves_long}
+use Rattle.engine.proofs.Entering.{counted_bounds}
+
+-- how many there are
+
+actions_length : (c : Contents) → length (state c).actions ≡ length c.actions
+unfolding state
+actions_length c = length-map c.actions (λ a. a.sets)
+
+leaves_length : (c : Contents) → Sound c → length (state c).leaves ≡ length c.cells
+unfolding state
+leaves_length c h = leaves_long c h
+
+nodes_length : (c : Contents) → Sound c → length (state c).nodes ≡ length c.nodes
+unfolding state
+nodes_length c h = nodes_long c h
+
+full_leaf : (c : Contents) → Sound c → (n : ℕ) → Numbered (state c).leaves n [] → ⊥
+unfolding state
+full_leaf c h n e = true≢false (leaf_full c h n [] e)
+
+whole_node : (c : Contents) → Sound c → (n : ℕ) (l : List MCell) → Numbered (state c).nodes n (MLeaf l) → ⊥
+unfolding state
+whole_node c h n l e = true≢false (node_whole c h n (MLeaf l) e)
+
+-- exactly what was asked for was added, and no record is there twice
+pub adds_of : (c : Contents) (s : Stored) (asks : List Request) → Sound c → Added s asks (state c) → Adds s asks (state c)
+adds_of c s asks h a =
+    record {
+      grown = g;
+      once = record { actions = h.actions_distinct; leaves = h.leaves_distinct; nodes = h.nodes_distinct };
+      asked = a.asked;
+      actions_asked = in_each (λ x. In (action x) asks) g.new_actions act;
+      leaves_asked = in_each (LeafAmong asks) g.new_leaves leaf;
+      nodes_asked = in_each (NodeAmong asks) g.new_nodes nod;
+    }
+  where
+    g : Grown s (state c)
+    g = a.grown
+
+    act : (x : MAction) → In x g.new_actions → In (action x) asks
+    act x i = go (a.nothing_else (action x) (r.0, subst (λ (l : List MAction). Numbered l r.0 x) (sym g.actions_grown) r.2))
+      where
+        r : (n : ℕ) × (length s.actions < n) × Numbered (s.actions ++ g.new_actions) n x
+        r = in_behind s.actions g.new_actions x i
+
+        go : Has s (action x) ⊎ In (action x) asks → In (action x) asks
+        go (inl k) = absurd (not_before s.actions g.new_actions (subst (λ (l : List MAction). Distinct l) g.actions_grown h.actions_distinct) x i k.0 k.1)
+        go (inr j) = j
+
+    leaf : (x : List MCell) → In x g.new_leaves → LeafAmong asks x
+    leaf x i = by_shape x i (in_behind s.leaves g.new_leaves x i)
+      where
+        by_shape : (x : List MCell) → In x g.new_leaves → (n : ℕ) × (length s.leaves < n) × Numbered (s.leaves ++ g.new_leaves) n x → LeafAmong asks x
+        by_shape [] i r = full_leaf c h r.0 (subst (λ (l : List (List MCell)). Numbered l r.0 []) (sym g.leaves_grown) r.2)
+        by_shape (y ∷ l) i r = go (a.nothing_else (cell y.0 y.1 l) (r.0, subst (λ (l' : List (List MCell)). Numbered l' r.0 (y ∷ l)) (sym g.leaves_grown) r.2))
+          where
+            go : Has s (cell y.0 y.1 l) ⊎ In (cell y.0 y.1 l) asks → In (cell y.0 y.1 l) asks
+            go (inl k) = absurd (not_before s.leaves g.new_leaves (subst (λ (l : List (List MCell)). Distinct l) g.leaves_grown h.leaves_distinct) (y ∷ l) i k.0 k.1)
+            go (inr j) = j
+
+    nod : (x : MDiagram) → In x g.new_nodes → NodeAmong asks x
+    nod x i = by_shape x i (in_behind s.nodes g.new_nodes x i)
+      where
+        by_shape : (x : MDiagram) → In x g.new_nodes → (n : ℕ) × (length s.nodes < n) × Numbered (s.nodes ++ g.new_nodes) n x → NodeAmong asks x
+        by_shape (MLeaf l) i r = whole_node c h r.0 l (subst (λ (l' : List MDiagram). Numbered l' r.0 (MLeaf l)) (sym g.nodes_grown) r.2)
+        by_shape (MNode f n y z) i r = go (a.nothing_else (node f n y z) (r.0, subst (λ (l : List MDiagram). Numbered l r.0 (MNode f n y z)) (sym g.nodes_grown) r.2))
+          where
+            go : Has s (node f n y z) ⊎ In (node f n y z) asks → In (node f n y z) asks
+            go (inl k) = absurd (not_before s.nodes g.new_nodes (subst (λ (l : List MDiagram). Distinct l) g.nodes_grown h.nodes_distinct) (MNode f n y z) i k.0 k.1)
+            go (inr j) = j
+
+-- words
+
+leaf_word : (n : ℕ) → n < value_end → (field_of (word 0 0 n) ≡ 0) × (kind_of (word 0 0 n) ≡ 0) × (value_of (word 0 0 n) ≡ n)
+leaf_word n h = (omega (arith, h), omega (arith, h), omega (arith, h))
+
+node_word : (n : ℕ) → n < value_end → (field_of (word 1 0 n) ≡ 0) × (kind_of (word 1 0 n) ≡ 1) × (value_of (word 1 0 n) ≡ n)
+node_word n h = (omega (arith, h), omega (arith, h), omega (arith, h))
+
+drop_or : (xs : List (List MCell)) (n : ℕ) → n ≤ length xs → slice_get ([] ∷ xs) n ≡ Some (numbered_or [] xs n)
+drop_or xs zero h = refl
+drop_or xs (suc n) h =
+    let r = numbered_any xs (suc n) (omega arith) h in
+    r.1 ∙ ap {B = Option (List MCell)} Some (sym (numbered_value [] xs (suc n) r.0 r.1))
+
+-- a word in store has its diagram
+pub names_diagram : (s : State) (w : Diagram) (d : MDiagram) → Names s w d → diagram s (word_of w) ≡ Some d
+unfolding diagram_of
+names_diagram s (Leaf n) d h =
+    let p = leaf_word n.number n.fits in
+    stands s (word 0 0 n.number) d
+    (subst (Standing s (word 0 0 n.number)) h.stands
+    (a_leaf p.0 p.1 (subst (λ (k : ℕ). slice_get ([] ∷ s.leaves) k ≡ Some (numbered_or [] s.leaves n.number)) (sym p.2) (drop_or s.leaves n.number h.present))))
+names_diagram s (Branch n) d h =
+    let p = node_word n.number n.fits in
+    let r = numbered_any s.nodes n.number h.present.0 h.present.1 in
+    stands s (word 1 0 n.number) d
+    (subst (Standing s (word 1 0 n.number)) h.stands
+    (a_node p.0 p.1
+    (subst (λ (k : ℕ). Numbered s.nodes k (numbered_or (MLeaf []) s.nodes n.number)) (sym p.2)
+    (r.1 ∙ ap {B = Option MDiagram} Some (sym (numbered_value (MLeaf []) s.nodes n.number r.0 r.1))))))
+
+pub word_held : (c : Counts) (s : Stores) → Good c s → (w : Diagram) → WordHeld c.cells c.nodes w → Present (state (contents c s)) w
+word_held c s g (Leaf n) h = let a = leaves_length (contents c s) g.sound in let b = g.counted.cells_counted in omega (arith, a, b, h)
+word_held c s g (Branch n) h = let a = nodes_length (contents c s) g.sound in let b = g.counted.nodes_counted in (h.0, omega (arith, a, b, h.1))
+
+pub held_diagram : (c : Counts) (s : Stores) → Good c s → (w : Diagram) (bits : ℕ) → word_of w ≡ bits → WordHeld c.cells c.nodes w → diagram (state (contents c s)) bits ≡ Some (diagram_of (state (contents c s)) w)
+held_diagram c s g w bits e h =
+    subst (λ (b : ℕ). diagram (state (contents c s)) b ≡ Some (diagram_of (state (contents c s)) w)) e
+    (names_diagram (state (contents c s)) w (diagram_of (state (contents c s)) w) (record { present = word_held c s g w h; stands = refl }))
+
+leaf_bits : (w : ℕ) → field_of w ≡ 0 → kind_of w ≡ 0 → word 0 0 (value_of w) ≡ w
+leaf_bits w f k = omega (arith, f, k)
+
+node_bits : (w : ℕ) → field_of w ≡ 0 → kind_of w ≡ 1 → word 1 0 (value_of w) ≡ w
+node_bits w f k = omega (arith, f, k)
+
+abbrev amount : (n : ℕ) → n < value_end → Amount
+amount n h = record { number = n; fits = h }
+
+small : (w : ℕ) → value_of w < value_end
+small w = omega arith
+
+dropped_place : {X : Type 0} (x : X) (xs : List X) (n : ℕ) (y : X) → slice_get (x ∷ xs) n ≡ Some y → n ≤ length xs
+dropped_place x xs zero y e = omega arith
+dropped_place x xs (suc n) y e = (numbered_bound xs (suc n) y e).1
+
+pub unheld_none :
+    (c : Counts) (s : Stores) → Good c s → (bits : ℕ) → ((w : Diagram) → word_of w ≡ bits → WordHeld c.cells c.nodes w → ⊥) → diagram (state (contents c s)) bits ≡ None
+unheld_none c s g bits h = go (diagram (state (contents c s)) bits) refl
+  where
+    S : State
+    S = state (contents c s)
+
+    no : (d : MDiagram) → Standing S bits d → ⊥
+    no d (a_leaf {l} f k e) =
+        h (Leaf (amount (value_of bits) (small bits))) (leaf_bits bits f k)
+        (let a = leaves_length (contents c s) g.sound in let b = g.counted.cells_counted in let p = dropped_place [] S.leaves (value_of bits) l e in omega (arith, a, b, p))
+    no d (a_node f k e) =
+        h (Branch (amount (value_of bits) (small bits))) (node_bits bits f k)
+        (let a = nodes_length (contents c s) g.sound in let b = g.counted.nodes_counted in let p = numbered_bound S.nodes (value_of bits) d e in (p.0, omega (arith, a, b, p.1)))
+
+    go : (x : Option MDiagram) → diagram S bits ≡ x → diagram S bits ≡ None
+    go None e = e
+    go (Some d) e = absurd (no d (standing S bits d e))
+
+-- sizes
+
+abbrev pub sizes_of : Stores → ℕ → Sizes
+sizes_of s t = record { actions = length s.actions.slots.now; cells = length s.cells.slots.now; nodes = length s.nodes.slots.now; table_words = t }
+
+pub fits_of : (c : Counts) (s : Stores) (t : ℕ) → Good c s → Fits (sizes_of s t) (state (contents c s))
+fits_of c s t g =
+    record {
+      actions = let a = actions_length (contents c s) in let b = g.counted.actions_counted in let k = counted_bounds c.actions s.actions.slots.now b in omega (arith, a, b, k.1);
+      leaves = let a = leaves_length (contents c s) g.sound in let b = g.counted.cells_counted in let k = counted_bounds c.cells s.cells.slots.now b in omega (arith, a, b, k.1);
+      nodes = let a = nodes_length (contents c s) g.sound in let b = g.counted.nodes_counted in let k = counted_bounds c.nodes s.nodes.slots.now b in omega (arith, a, b, k.1);
+    }
+
+pub over_of : (s : Stores) (t : ℕ) → AllFit (sizes_of s t) → (S : State) (asks : List Request) → Over (rooms s) S asks → Over (size (sizes_of s t)) S asks
+over_of s t h S asks o =
+    record { kind = o.kind; records = o.records; different = o.different; of_kind = o.of_kind; held_or_asked = o.held_or_asked; too_many = go o.kind o.too_many }
+  where
+    go : (k : Kind) → rooms s k < length o.records → size (sizes_of s t) k < length o.records
+    go actions l = let a = h.actions_fit.1 in omega (arith, a, l)
+    go cells l = let a = h.cells_fit.1 in omega (arith, a, l)
+    go nodes l = let a = h.nodes_fit.1 in omega (arith, a, l)
+
+same_sizes : (s s' : Stores) (t : ℕ) → SameMemory s s' → sizes_of s' t ≡ sizes_of s t
+same_sizes s s' t h i = record { actions = h.actions_size i; cells = h.cells_size i; nodes = h.nodes_size i; table_words = t }
+
+-- an accepted construction
+pub grows_of :
+    (c c' : Counts) (s s' : Stores) (t : ℕ) (r : MDiagram) (asks : List Request) (w : Diagram) →
+    Kept c s c' s' → Made r asks c s c' s' w → Grows (sizes_of s t) (state (contents c s)) asks r (word_of w) (state (contents c' s'))
+grows_of c c' s s' t r asks w k m =
+    record {
+      adds = adds_of (contents c' s') (state (contents c s)) asks m.good.sound m.added;
+      its_word = names_diagram (state (contents c' s')) w r m.names;
+      fits = subst (λ (z : Sizes). Fits z (state (contents c' s'))) (same_sizes s s' t k.memory) (fits_of c' s' t m.good);
+    }

@@ -1,0 +1,113 @@
+-- What is remembered stays true.
+use Rattle.std.specs.List.{slice_get}
+use Rattle.std.proofs.Math.ListN.{replicate}
+use Rattle.std.proofs.Common.{◌≡◌, ℕ, zero, suc, ◌⊎◌, List, [], Some, None, Option, Ok, Err, Result, OnOk, sym, refl, ap, ◌∙◌, subst, inl, inr}
+use Rattle.weights.specs.Weights.{Ops}
+use Rattle.requests.specs.Claims.{Construction}
+use Rattle.faults.specs.declared.layers.StoreFault.{StoreFault}
+use Rattle.records.specs.declared.kinds.Diagram.{Diagram}
+use Rattle.counts.specs.declared.counts.Counts.{Counts}
+use Rattle.diagrams.specs.declared.memory.Stores.{Stores}
+use Rattle.engine.specs.declared.memo.Entry.{Entry}
+use Rattle.engine.specs.declared.memo.Operation.{Operation}
+use Rattle.engine.specs.declared.memo.Operation.TheVariants.{Narrow, Join, Choose, Prefix, Sequence, Not}
+use Rattle.engine.specs.Built.{numbered_or}
+use Rattle.engine.specs.State.{State, Present, Names, Grown}
+use Rattle.engine.specs.Cells.{LeavesFormed}
+use Rattle.engine.specs.Done.{Good, Done}
+use Rattle.engine.specs.Memo.{Written, asked_for, Fits, Remembered, Remembers, Noted, Recalled}
+use Rattle.engine.proofs.Numbers.{each_map, or_grown}
+use Rattle.engine.proofs.Composing.{names_grown, has_grown, same_diagram, present_grown, grown_refl, complete, kept_refl}
+use Rattle.engine.proofs.Alike.{narrows_alike, joins_alike, chooses_alike, prefixes_alike, sequences_alike, negates_alike}
+use Rattle.engine.proofs.Reading.{longer_still}
+use Rattle.engine.proofs.NarrowRules.{here}
+
+module _ {s s' : State} (g : Grown s s') where
+  fits_grown : (x : Operation) → Fits s x → Fits s' x
+  fits_grown (Narrow t) h = tt
+  fits_grown Join h = tt
+  fits_grown (Choose t) h = tt
+  fits_grown (Prefix a m) h = longer_still g a.number h
+  fits_grown Sequence h = tt
+  fits_grown Not h = tt
+
+  -- in stores that have grown the same was asked for
+  asked_grown : (o : Ops) (x : Operation) (v w : Diagram) → Fits s x → Present s v → Present s w → ◌≡◌ {A = Construction} (asked_for o s x v w) (asked_for o s' x v w)
+  asked_grown o (Narrow t) v w f p q = narrows_alike o t.field t.value (sym (same_diagram g v p))
+  asked_grown o Join v w f p q = joins_alike o (sym (same_diagram g v p)) (sym (same_diagram g w q))
+  asked_grown o (Choose t) v w f p q = chooses_alike o t.field t.value (sym (same_diagram g v p)) (sym (same_diagram g w q))
+  asked_grown o (Prefix a m) v w f p q = prefixes_alike o (sym (ap (λ l. numbered_or [] l a.number) g.actions_grown ∙ or_grown [] s.actions g.new_actions a.number f)) refl (sym (same_diagram g v p))
+  asked_grown o Sequence v w f p q = sequences_alike o (sym (same_diagram g w q)) (sym (same_diagram g v p))
+  asked_grown o Not v w f p q = negates_alike o (sym (same_diagram g v p))
+
+  remembered_grown : (o : Ops) (e : Entry) → Remembered o s e → Remembered o s' e
+  remembered_grown o e r =
+      record {
+        fits = fits_grown e.operation r.fits;
+        left_present = present_grown g e.left r.left_present;
+        right_present = present_grown g e.right r.right_present;
+        out = r.out;
+        result_names = names_grown g r.result_names;
+        asks = r.asks;
+        by_the_rules = subst (λ (R : Construction). R r.out r.asks) (asked_grown o e.operation e.left e.right r.fits r.left_present r.right_present) r.by_the_rules;
+        held = each_map (has_grown g) r.asks r.held;
+      }
+
+  pub remembers_grown : (o : Ops) (l : List (Option Entry)) → LeavesFormed o s' → Remembers o s l → Remembers o s' l
+  remembers_grown o l f m = (f, λ e h. remembered_grown o e (m.1 e h))
+
+module _ {o : Ops} where
+  -- what does not touch the memo keeps it
+  pub leaf_keeps : {c c' : Counts} {s s' : Stores} {R : Construction} (l : List (Option Entry)) (result : Result Diagram StoreFault) → Remembers o (here c s) l → OnOk result (LeavesFormed o (here c' s')) → Done R c s c' s' result → OnOk result (Remembers o (here c' s') l)
+  leaf_keeps l (Ok w) m f d = remembers_grown d.made.added.grown o l f m
+  leaf_keeps l (Err e) m f d = tt
+
+  -- what is remembered is done
+  pub recalled :
+      {c : Counts} {s : Stores} (l : List (Option Entry)) (x : Operation) (left right : Diagram) {w : Diagram} →
+      Good c s →
+      Remembers o (here c s) l →
+      Recalled l x left right w →
+      Done (asked_for o (here c s) x left right) c s c s (Ok w)
+  recalled {c} {s} l x left right {w} g m r =
+      let R = m.1 r.entry r.written in
+      complete R.asks
+      (record { good = g; added = record { grown = grown_refl (here c s); asked = R.held; nothing_else = λ q h. inl h }; kept = kept_refl c s })
+      refl
+      (subst (λ (y : Diagram). Names (here c s) y R.out) r.its_result R.result_names)
+      (subst (λ (K : Construction). K R.out R.asks) (λ i. asked_for o (here c s) (r.its_operation i) (r.its_left i) (r.its_right i)) R.by_the_rules)
+
+  -- what is done may be noted
+  pub noted :
+      {c c' : Counts} {s s' : Stores} (l l' : List (Option Entry)) (x : Operation) (left right w : Diagram) →
+      Fits (here c s) x →
+      Present (here c s) left →
+      Present (here c s) right →
+      Remembers o (here c' s') l →
+      Done (asked_for o (here c s) x left right) c s c' s' (Ok w) →
+      Noted l (record { operation = x; left = left; right = right; result = w }) l' →
+      Remembers o (here c' s') l'
+  noted {c} {c'} {s} {s'} l l' x left right w f p q m d n = (m.0, λ e h. go e (n e h))
+    where
+      g : Grown (here c s) (here c' s')
+      g = d.made.added.grown
+
+      go : (e : Entry) → Written l e ⊎ (e ≡ record { operation = x; left = left; right = right; result = w }) → Remembered o (here c' s') e
+      go e (inl k) = m.1 e k
+      go e (inr k) =
+          subst (λ (y : Entry). Remembered o (here c' s') y) (sym k)
+          (record {
+            fits = fits_grown g x f;
+            left_present = present_grown g left p;
+            right_present = present_grown g right q;
+            out = d.out;
+            result_names = d.made.names;
+            asks = d.asks;
+            by_the_rules = subst (λ (K : Construction). K d.out d.asks) (asked_grown g o x left right f p q) d.by_the_rules;
+            held = d.made.added.asked;
+          })
+
+pub none_written : (n i : ℕ) (e : Entry) → slice_get (replicate {A = Option Entry} n None) i ≡ Some (Some e) → ⊥
+none_written zero i e h = cc
+none_written (suc n) zero e h = cc
+none_written (suc n) (suc i) e h = none_written n i e h

@@ -1,0 +1,9 @@
+use Rattle.std.proofs.Common.{arith}
+use Rattle.engine.proofs.Reading.{leaf_counted, action_counted}
+use Rattle.engine.proofs.putting.+put_cells.Goals as goal
+
+pub cell-own-requires-clause-held : goal.cell-own-requires-clause-held
+cell-own-requires-clause-held t c = (omega arith, leaf_counted _ _ c.requires.good _ c.requires.present)
+
+pub action-kept-requires-clause-held : goal.action-kept-requires-clause-held
+action-kept-requires-clause-held t c = let h = c.cell-own.ensures.action_present in (h.0, action_counted _ _ c.requires.good _ h.1)

@@ -1,0 +1,17 @@
+pub mod Built
+pub mod State
+pub mod Done
+pub mod Leaves
+pub mod Bench
+pub mod Props
+pub mod Rounds
+pub mod Memo
+pub mod Cells
+pub mod Merging
+pub mod Greatest
+pub mod Steps
+pub mod Words
+pub mod Compiling
+pub mod Listing
+pub mod Sheets
+pub mod Listed

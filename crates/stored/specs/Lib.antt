@@ -1,0 +1,4 @@
+pub mod Stored
+pub mod Grows
+pub mod Whole
+pub mod Calls
