@@ -1,5 +1,5 @@
 -- What a construction over the stores is to a bench. Assumes nothing.
-use Rattle.std.proofs.Common.{◌≡◌, ℕ, zero, suc, ◌<◌, ◌≤◌, ◌⊎◌, true≢false, List, [], ◌∷◌, ◌++◌, length, Some, None, Option, sym, refl, ap, ◌∙◌, subst, inl, inr, arith}
+use Rattle.std.proofs.Common.{◌≡◌, ℕ, zero, suc, ◌<◌, ◌≤◌, ◌⊎◌, true≢false, List, [], ◌∷◌, ◌++◌, length, min, Some, None, Option, sym, refl, ap, ◌∙◌, subst, inl, inr, arith}
 use lib.ListN.{length-map}
 use Rattle.std.specs.List.{slice_get}
 use Rattle.format.specs.Words.{value_end, word, kind_of, field_of, value_of}
@@ -7,17 +7,15 @@ use Rattle.weights.specs.Order.{In}
 use Rattle.meaning.specs.Leaves.{Action as MAction, Cell as MCell}
 use Rattle.meaning.specs.Diagrams.{Diagram as MDiagram, Leaf as MLeaf, Node as MNode}
 use Rattle.requests.specs.Requests.{Request, action, cell, node}
-use Rattle.stores.specs.Numbers.{Numbered, Distinct}
+use Rattle.stores.specs.Numbers.{Numbered, Distinct, room, numbers_limit}
 use Rattle.format.specs.declared.settings.Amount.{Amount}
 use Rattle.records.specs.declared.kinds.Diagram.{Diagram}
 use Rattle.records.specs.declared.kinds.Diagram.TheVariants.{Leaf, Branch}
 use Rattle.records.specs.Words.{word_of, Held as WordHeld}
 use Rattle.counts.specs.declared.counts.Counts.{Counts}
-use Rattle.counts.specs.declared.memory.Sizes.{Sizes}
-use Rattle.counts.specs.Memory.{AllFit}
 use Rattle.diagrams.specs.declared.memory.Stores.{Stores}
 use Rattle.diagrams.specs.Tests.{Contents, contents, SameMemory}
-use Rattle.stored.specs.Stored.{Stored, diagram}
+use Rattle.stored.specs.Stored.{Stored, Rooms, diagram}
 use Rattle.stored.specs.Grows.{Fits, Adds, Grows, LeafAmong, NodeAmong, size}
 use Rattle.stored.proofs.Numbers.{in_each, in_behind, not_before}
 use Rattle.stored.proofs.Growth.{Standing, a_leaf, a_node, standing, stands}
@@ -172,38 +170,39 @@ unheld_none c s g bits h = go (diagram (state (contents c s)) bits) refl
     go None e = e
     go (Some d) e = absurd (no d (standing S bits d e))
 
--- sizes
+-- how much there is room for
 
-abbrev pub sizes_of : Stores → ℕ → Sizes
-sizes_of s t = record { actions = length s.actions.slots.now; cells = length s.cells.slots.now; nodes = length s.nodes.slots.now; table_words = t }
+-- as many records of each kind as have slots and numbers
+abbrev pub rooms_in : Stores → Rooms
+rooms_in s = record { actions = room s.actions.slots.now; cells = room s.cells.slots.now; nodes = room s.nodes.slots.now }
 
-pub fits_of : (c : Counts) (s : Stores) (t : ℕ) → Good c s → Fits (sizes_of s t) (state (contents c s))
-fits_of c s t g =
+pub fits_of : (c : Counts) (s : Stores) → Good c s → Fits (rooms_in s) (state (contents c s))
+fits_of c s g =
     record {
-      actions = let a = actions_length (contents c s) in let b = g.counted.actions_counted in let k = counted_bounds c.actions s.actions.slots.now b in omega (arith, a, b, k.1);
-      leaves = let a = leaves_length (contents c s) g.sound in let b = g.counted.cells_counted in let k = counted_bounds c.cells s.cells.slots.now b in omega (arith, a, b, k.1);
-      nodes = let a = nodes_length (contents c s) g.sound in let b = g.counted.nodes_counted in let k = counted_bounds c.nodes s.nodes.slots.now b in omega (arith, a, b, k.1);
+      actions = let a = actions_length (contents c s) in let b = g.counted.actions_counted in let k = counted_bounds c.actions s.actions.slots.now b in omega (arith, a, b, k.0, k.1);
+      leaves = let a = leaves_length (contents c s) g.sound in let b = g.counted.cells_counted in let k = counted_bounds c.cells s.cells.slots.now b in omega (arith, a, b, k.0, k.1);
+      nodes = let a = nodes_length (contents c s) g.sound in let b = g.counted.nodes_counted in let k = counted_bounds c.nodes s.nodes.slots.now b in omega (arith, a, b, k.0, k.1);
     }
 
-pub over_of : (s : Stores) (t : ℕ) → AllFit (sizes_of s t) → (S : State) (asks : List Request) → Over (rooms s) S asks → Over (size (sizes_of s t)) S asks
-over_of s t h S asks o =
+pub over_of : (s : Stores) (S : State) (asks : List Request) → Over (rooms s) S asks → Over (size (rooms_in s)) S asks
+over_of s S asks o =
     record { kind = o.kind; records = o.records; different = o.different; of_kind = o.of_kind; held_or_asked = o.held_or_asked; too_many = go o.kind o.too_many }
   where
-    go : (k : Kind) → rooms s k < length o.records → size (sizes_of s t) k < length o.records
-    go actions l = let a = h.actions_fit.1 in omega (arith, a, l)
-    go cells l = let a = h.cells_fit.1 in omega (arith, a, l)
-    go nodes l = let a = h.nodes_fit.1 in omega (arith, a, l)
+    go : (k : Kind) → rooms s k < length o.records → size (rooms_in s) k < length o.records
+    go actions l = l
+    go cells l = l
+    go nodes l = l
 
-same_sizes : (s s' : Stores) (t : ℕ) → SameMemory s s' → sizes_of s' t ≡ sizes_of s t
-same_sizes s s' t h i = record { actions = h.actions_size i; cells = h.cells_size i; nodes = h.nodes_size i; table_words = t }
+pub same_rooms : (s s' : Stores) → SameMemory s s' → rooms_in s' ≡ rooms_in s
+same_rooms s s' h i = record { actions = min (h.actions_size i) numbers_limit; cells = min (h.cells_size i) numbers_limit; nodes = min (h.nodes_size i) numbers_limit }
 
 -- an accepted construction
 pub grows_of :
-    (c c' : Counts) (s s' : Stores) (t : ℕ) (r : MDiagram) (asks : List Request) (w : Diagram) →
-    Kept c s c' s' → Made r asks c s c' s' w → Grows (sizes_of s t) (state (contents c s)) asks r (word_of w) (state (contents c' s'))
-grows_of c c' s s' t r asks w k m =
+    (c c' : Counts) (s s' : Stores) (r : MDiagram) (asks : List Request) (w : Diagram) →
+    Kept c s c' s' → Made r asks c s c' s' w → Grows (rooms_in s) (state (contents c s)) asks r (word_of w) (state (contents c' s'))
+grows_of c c' s s' r asks w k m =
     record {
       adds = adds_of (contents c' s') (state (contents c s)) asks m.good.sound m.added;
       its_word = names_diagram (state (contents c' s')) w r m.names;
-      fits = subst (λ (z : Sizes). Fits z (state (contents c' s'))) (same_sizes s s' t k.memory) (fits_of c' s' t m.good);
+      fits = subst (λ (z : Rooms). Fits z (state (contents c' s'))) (same_rooms s s' k.memory) (fits_of c' s' m.good);
     }
