@@ -36,7 +36,7 @@ impl Action {
         Action { sets }
     }
 
-    // Field 0 first, none before any value, smaller values first: the derived order, with what it promises here.
+    // The first field that differs decides: keeping it is below setting it. The derived order, with what it promises here.
     pub fn compare(&self, other: &Action) -> Ordering
         ensures { MatchOrdering result (ActionBelow self.now.sets other.now.sets) (self.now ≡ other.now) (ActionBelow other.now.sets self.now.sets) }
     {

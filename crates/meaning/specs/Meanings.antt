@@ -49,7 +49,7 @@ IsUnion o a b m = Everywhere (λ s t. m s t ≡ o.join (a s t) (b s t))
 abbrev pub IsSequence : Ops → Meaning → Meaning → Meaning → Type 0
 IsSequence o a b m = Everywhere (λ s t. Lub o {I = (h : Frame) × InRange h} (λ h. o.times (a s h.0) (b h.0 t)) (m s t))
 
--- pass where the operand gives zero from the frame to itself, else drop
+-- a frame goes on as it is, with weight one, if the operand does not emit it unchanged
 abbrev pub IsNot : Ops → Meaning → Meaning → Type 0
 IsNot o a m = Everywhere (λ s t. m s t ≡ choice (decide (a s s) o.zero) (only o s t o.one) o.zero)
 

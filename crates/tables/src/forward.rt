@@ -151,7 +151,7 @@ impl<'a, K: WeightKind> CheckedTable<'a, K> {
         }
     }
 
-    // Forwards a frame: each emitted frame once, its weights joined, ascending by values, as a weight word and the frame's words.
+    // Writes what becomes of a frame: the frames that go out, in ascending order and none twice, nine words each, the weight first.
     // The answer is the number of words written into the memory, which is lent by a rule of the project; a refusal leaves zeros.
     pub fn forward(&self, frame: &[u32], out: &mut [u32]) -> Result<usize, FrameFault>
         ensures exact { OfItsRows K.WeightKind.ops self.now.words.now (λ rows. MatchResult result (λ n. Answered K.WeightKind.ops rows frame.now out.old n out.new) (λ e. Refused K.WeightKind.ops rows frame.now (length out.old) e)) }
