@@ -1,13 +1,13 @@
 -- What a construction over the stores is to a bench. Assumes nothing.
-use Rattle.std.proofs.Common.{◌≡◌, ℕ, zero, suc, ◌<◌, ◌≤◌, ◌⊎◌, true≢false, List, [], ◌∷◌, ◌++◌, length, min, Some, None, Option, sym, refl, ap, ◌∙◌, subst, inl, inr, arith}
+use Rattle.std.proofs.Common.{◌≡◌, ℕ, zero, suc, ◌<◌, ◌≤◌, ◌⊎◌, true≢false, List, [], ◌∷◌, length, min, Some, None, Option, sym, refl, ap, ◌∙◌, subst, inl, inr, arith}
 use lib.ListN.{length-map}
 use Rattle.std.specs.List.{slice_get}
 use Rattle.format.specs.Words.{value_end, word, kind_of, field_of, value_of}
 use Rattle.weights.specs.Order.{In}
-use Rattle.meaning.specs.Leaves.{Action as MAction, Cell as MCell}
-use Rattle.meaning.specs.Diagrams.{Diagram as MDiagram, Leaf as MLeaf, Node as MNode}
-use Rattle.requests.specs.Requests.{Request, action, cell, node}
-use Rattle.stores.specs.Numbers.{Numbered, Distinct, room, numbers_limit}
+use Rattle.meaning.specs.Leaves.{Cell as MCell}
+use Rattle.meaning.specs.Diagrams.{Diagram as MDiagram, Leaf as MLeaf}
+use Rattle.requests.specs.Requests.{Request}
+use Rattle.stores.specs.Numbers.{Numbered, room, numbers_limit}
 use Rattle.format.specs.declared.settings.Amount.{Amount}
 use Rattle.records.specs.declared.kinds.Diagram.{Diagram}
 use Rattle.records.specs.declared.kinds.Diagram.TheVariants.{Leaf, Branch}
@@ -16,11 +16,11 @@ use Rattle.counts.specs.declared.counts.Counts.{Counts}
 use Rattle.diagrams.specs.declared.memory.Stores.{Stores}
 use Rattle.diagrams.specs.Tests.{Contents, contents, SameMemory}
 use Rattle.stored.specs.Stored.{Stored, Rooms, diagram}
-use Rattle.stored.specs.Grows.{Fits, Adds, Grows, LeafAmong, NodeAmong, size}
-use Rattle.stored.proofs.Numbers.{in_each, in_behind, not_before}
-use Rattle.stored.proofs.Growth.{Standing, a_leaf, a_node, standing, stands}
+use Rattle.stored.specs.Grows.{Fits, Adds, Grows, size}
+use Rattle.stored.proofs.Numbers.{each_in}
+use Rattle.stored.proofs.Growth.{Standing, a_leaf, a_node, standing, stands, has_grown}
 use Rattle.engine.specs.Built.{numbered_or}
-use Rattle.engine.specs.State.{State, state, diagram_of, Present, Names, Has, Sound, Grown}
+use Rattle.engine.specs.State.{State, state, diagram_of, Present, Names, Has, Sound}
 use Rattle.engine.specs.Done.{Kind, actions, cells, nodes, rooms, Added, Over, Good, Kept, Made}
 use Rattle.engine.proofs.Numbers.{numbered_any, numbered_value, numbered_bound}
 use Rattle.engine.proofs.Decoding.{leaf_full, node_whole, nodes_long, leaves_long}
@@ -52,48 +52,16 @@ whole_node c h n l e = true≢false (node_whole c h n (MLeaf l) e)
 pub adds_of : (c : Contents) (s : Stored) (asks : List Request) → Sound c → Added s asks (state c) → Adds s asks (state c)
 adds_of c s asks h a =
     record {
-      grown = g;
+      grown = a.grown;
       once = record { actions = h.actions_distinct; leaves = h.leaves_distinct; nodes = h.nodes_distinct };
-      asked = a.asked;
-      actions_asked = in_each (λ x. In (action x) asks) g.new_actions act;
-      leaves_asked = in_each (LeafAmong asks) g.new_leaves leaf;
-      nodes_asked = in_each (NodeAmong asks) g.new_nodes nod;
+      exactly = λ q. (a.nothing_else q, there q);
+      no_drop = full_leaf c h;
+      no_leaf = λ l n. whole_node c h n l;
     }
   where
-    g : Grown s (state c)
-    g = a.grown
-
-    act : (x : MAction) → In x g.new_actions → In (action x) asks
-    act x i = go (a.nothing_else (action x) (r.0, subst (λ (l : List MAction). Numbered l r.0 x) (sym g.actions_grown) r.2))
-      where
-        r : (n : ℕ) × (length s.actions < n) × Numbered (s.actions ++ g.new_actions) n x
-        r = in_behind s.actions g.new_actions x i
-
-        go : Has s (action x) ⊎ In (action x) asks → In (action x) asks
-        go (inl k) = absurd (not_before s.actions g.new_actions (subst (λ (l : List MAction). Distinct l) g.actions_grown h.actions_distinct) x i k.0 k.1)
-        go (inr j) = j
-
-    leaf : (x : List MCell) → In x g.new_leaves → LeafAmong asks x
-    leaf x i = by_shape x i (in_behind s.leaves g.new_leaves x i)
-      where
-        by_shape : (x : List MCell) → In x g.new_leaves → (n : ℕ) × (length s.leaves < n) × Numbered (s.leaves ++ g.new_leaves) n x → LeafAmong asks x
-        by_shape [] i r = full_leaf c h r.0 (subst (λ (l : List (List MCell)). Numbered l r.0 []) (sym g.leaves_grown) r.2)
-        by_shape (y ∷ l) i r = go (a.nothing_else (cell y.0 y.1 l) (r.0, subst (λ (l' : List (List MCell)). Numbered l' r.0 (y ∷ l)) (sym g.leaves_grown) r.2))
-          where
-            go : Has s (cell y.0 y.1 l) ⊎ In (cell y.0 y.1 l) asks → In (cell y.0 y.1 l) asks
-            go (inl k) = absurd (not_before s.leaves g.new_leaves (subst (λ (l : List (List MCell)). Distinct l) g.leaves_grown h.leaves_distinct) (y ∷ l) i k.0 k.1)
-            go (inr j) = j
-
-    nod : (x : MDiagram) → In x g.new_nodes → NodeAmong asks x
-    nod x i = by_shape x i (in_behind s.nodes g.new_nodes x i)
-      where
-        by_shape : (x : MDiagram) → In x g.new_nodes → (n : ℕ) × (length s.nodes < n) × Numbered (s.nodes ++ g.new_nodes) n x → NodeAmong asks x
-        by_shape (MLeaf l) i r = whole_node c h r.0 l (subst (λ (l' : List MDiagram). Numbered l' r.0 (MLeaf l)) (sym g.nodes_grown) r.2)
-        by_shape (MNode f n y z) i r = go (a.nothing_else (node f n y z) (r.0, subst (λ (l : List MDiagram). Numbered l r.0 (MNode f n y z)) (sym g.nodes_grown) r.2))
-          where
-            go : Has s (node f n y z) ⊎ In (node f n y z) asks → In (node f n y z) asks
-            go (inl k) = absurd (not_before s.nodes g.new_nodes (subst (λ (l : List MDiagram). Distinct l) g.nodes_grown h.nodes_distinct) (MNode f n y z) i k.0 k.1)
-            go (inr j) = j
+    there : (q : Request) → Has s q ⊎ In q asks → Has (state c) q
+    there q (inl k) = has_grown s (state c) a.grown q k
+    there q (inr j) = each_in (Has (state c)) asks a.asked q j
 
 -- words
 

@@ -17,9 +17,10 @@ use Rattle.laws.proofs.Laws.{diagrams_give_meanings_lem, join_is_union_lem, sequ
 use Rattle.stored.specs.Stored.{Stored, diagram, Has}
 use Rattle.stored.specs.Grows.{Adds}
 use Rattle.stored.specs.Whole.{Inside}
-use Rattle.stored.proofs.Growth.{all_inside, more_records}
+use Rattle.stored.proofs.Growth.{all_inside, more_records, asked_there}
 use Rattle.stored.proofs.Inside.{joins_inside, sequences_inside, stars_inside, compiled_inside}
-use Rattle.steps.specs.States.{State, SoundStores}
+use Rattle.steps.specs.States.{State}
+use Rattle.steps.specs.Sound.{SoundStores}
 use Rattle.steps.specs.Steps.{Call, Builds, of_policy, of_union, of_sequence, of_star, Unheld, union_first, union_second, sequence_first, sequence_second, star_operand, install_operand}
 use Rattle.steps.proofs.Stores.{diagram_formed}
 
@@ -84,13 +85,13 @@ module _ {o : Ops} (L : Laws o) where
 
 -- every record of what was asked for is in store
 pub built_inside : (o : Ops) (s : State) → SoundStores o s → (c : Call) (r : Diagram) (asks : List Request) (m : Stored) → Builds o s.stored c r asks → Adds s.stored asks m → Each (Inside (Has m)) asks
-built_inside o s h c r asks m (of_policy l k) g = compiled_inside (Has m) k g.asked
+built_inside o s h c r asks m (of_policy l k) g = compiled_inside (Has m) k (asked_there s.stored asks m g)
 built_inside o s h c r asks m (of_union {x = x} {y = y} {d = d} {e = e} p q k) g =
-    joins_inside (Has m) k g.asked (more_records s.stored m g.grown d (all_inside s.rooms s.stored h.whole x d p)) (more_records s.stored m g.grown e (all_inside s.rooms s.stored h.whole y e q))
+    joins_inside (Has m) k (asked_there s.stored asks m g) (more_records s.stored m g.grown d (all_inside s.rooms s.stored h.whole x d p)) (more_records s.stored m g.grown e (all_inside s.rooms s.stored h.whole y e q))
 built_inside o s h c r asks m (of_sequence {x = x} {y = y} {d = d} {e = e} p q k) g =
-    sequences_inside (Has m) k g.asked (more_records s.stored m g.grown e (all_inside s.rooms s.stored h.whole y e q)) (more_records s.stored m g.grown d (all_inside s.rooms s.stored h.whole x d p))
+    sequences_inside (Has m) k (asked_there s.stored asks m g) (more_records s.stored m g.grown e (all_inside s.rooms s.stored h.whole y e q)) (more_records s.stored m g.grown d (all_inside s.rooms s.stored h.whole x d p))
 built_inside o s h c r asks m (of_star {x = x} {d = d} p k) g =
-    stars_inside (Has m) k g.asked (more_records s.stored m g.grown d (all_inside s.rooms s.stored h.whole x d p))
+    stars_inside (Has m) k (asked_there s.stored asks m g) (more_records s.stored m g.grown d (all_inside s.rooms s.stored h.whole x d p))
 
 -- the constructions give one diagram for a call, and request the same records
 pub built_once : (o : Ops) (s : Stored) (c : Call) (r r' : Diagram) (a a' : List Request) → Builds o s c r a → Builds o s c r' a' → (r ≡ r') × (a ≡ a')

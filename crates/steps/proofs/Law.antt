@@ -30,13 +30,14 @@ use Rattle.stored.specs.Stored.{Stored, diagram}
 use Rattle.stored.specs.Grows.{Grows}
 use Rattle.stored.proofs.Numbers.{each_weaker}
 use Rattle.stored.proofs.Growth.{whole_after, formed_after, diagram_grown}
-use Rattle.steps.specs.States.{State, Lists, Sound, opened}
+use Rattle.steps.specs.States.{State, opened}
+use Rattle.steps.specs.Sound.{Lists, Sound}
 use Rattle.steps.specs.Steps.{Call, Install, Forward, Reply, Word, Installed, Written, Refused, Builds, of_policy, of_union, of_sequence, of_star, Refuses, not_held, full, no_frame, Sends, Step, refused, built, installed, sent, with_stored, with_table}
 use Rattle.steps.specs.Series.{Ledger, walk_of, latest, stands_for, entered, Enters, by_compile, by_union, by_sequence, by_star, by_install, by_forward, by_refused, Event, Series, none, next, Gave, ItsWord, Enough, Emits, Forwards, Right, SeriesLaw}
 use Rattle.steps.proofs.Stores.{diagram_formed, one_word_for_equal}
 use Rattle.steps.proofs.Building.{same_diagram, policy_made, union_made, sequence_made, star_made, built_formed, built_inside}
 use Rattle.steps.proofs.Meanings.{union_alike, sequence_alike, star_alike}
-use Rattle.steps.proofs.Forwarding.{no_fault, same_frame, frame_values, answer_emits, not_overfull}
+use Rattle.steps.proofs.Forwarding.{its_rows, no_fault, same_frame, frame_values, answer_emits, not_overfull}
 use Rattle.steps.proofs.Refusals.{exactly}
 use Rattle.steps.proofs.Opening.{opened_sound, drop_listed}
 
@@ -152,7 +153,7 @@ module _ {o : Ops} (L : Laws o) where
   forwards_at : (s : State) (m : Meaning) → InForce o s m → (v : Frame) (n : ℕ) (r : Reply) (s' : State) → InRange v → Enough o m v n → Step o s (Forward (frame_words v) n) r s' → (out : List ℕ) × (r ≡ Written out) × Emits o m v out
   forwards_at s m F v n r s' i e (refused (not_held u)) = elim u [ ]
   forwards_at s m F v n r s' i e (refused (full b h)) = elim b [ ]
-  forwards_at s m F v n r s' i e (refused (no_frame {f = f} k)) = absurd (go f (k (rows_of F.table.listed) F.table.legal F.table.words))
+  forwards_at s m F v n r s' i e (refused (no_frame {f = f} {rows = rows} h k)) = absurd (go f (subst (λ (u : List Row). FrameRefused o u (frame_words v) n f) (its_rows L s.table F.table rows h) k))
     where
       go : (g : FrameFault) → FrameRefused o (rows_of F.table.listed) (frame_words v) n g → ⊥
       go Length h = no_fault Length (frame_words v) h v (frame_values v i) refl
@@ -160,10 +161,10 @@ module _ {o : Ops} (L : Laws o) where
       go NoRoom (t, a, b, O) =
           not_overfull L F.table.listed F.table.formed m F.weighs v i n e (subst (λ (u : Frame). Overfull o (rows_of F.table.listed) u n) (sym (same_frame v t b)) O)
   forwards_at s m F v n r s' i e (built b g) = elim b [ ]
-  forwards_at s m F v n r s' i e (sent {out = out} k) = (out, refl, subst (Emits o m v) (sym S.written) (answer_emits L F.table.listed F.table.formed m F.weighs v i S.answer (subst (λ (u : Frame). Answer o (rows_of F.table.listed) u S.answer) (sym (same_frame v S.frame S.its_words)) S.right)))
+  forwards_at s m F v n r s' i e (sent {out = out} {rows = rows} h k) = (out, refl, subst (Emits o m v) (sym S.written) (answer_emits L F.table.listed F.table.formed m F.weighs v i S.answer (subst (λ (u : Frame). Answer o (rows_of F.table.listed) u S.answer) (sym (same_frame v S.frame S.its_words)) S.right)))
     where
       S : Sends o (rows_of F.table.listed) (frame_words v) n out
-      S = k (rows_of F.table.listed) F.table.legal F.table.words
+      S = subst (λ (u : List Row). Sends o u (frame_words v) n out) (its_rows L s.table F.table rows h) k
 
   forwards : (s : State) (m : Meaning) → InForce o s m → (c : Call) (r : Reply) (s' : State) → Step o s c r s' → Forwards o m c r
   forwards s m F c r s' h v n q i e = forwards_at s m F v n r s' i e (subst (λ (x : Call). Step o s x r s') q h)
@@ -277,7 +278,7 @@ module _ {o : Ops} (L : Laws o) where
     where
       listed : Lists o (table_words (rows_of d))
       listed = lists_diagram o d s.table_room (diagram_formed o s G.sound.stores x d p) k G.sound.countable
-  good_next es s s' l l' c r G (sent {ws = ws} {n = n} {out = out} k) by_forward = plain L es s s l l (Forward ws n) (Written out) G (sent k) refl refl G.sound G.in_force (no_such_word (Written out) refl)
+  good_next es s s' l l' c r G (sent {ws = ws} {n = n} {out = out} h k) by_forward = plain L es s s l l (Forward ws n) (Written out) G (sent h k) refl refl G.sound G.in_force (no_such_word (Written out) refl)
 
   pub good : (z : Sizes) → AllFit z → (es : List Event) (s : State) (l : Ledger) → Series o (opened z) es s l → Good o es s l
   good z h es s l none =

@@ -12,7 +12,8 @@ use Rattle.requests.specs.Requests.{Request, action, cell, node}
 use Rattle.stores.specs.Numbers.{Numbered}
 use Rattle.stored.specs.Stored.{Stored, Has}
 use Rattle.stored.specs.Whole.{Whole}
-use Rattle.steps.specs.States.{rooms_of, Lists, Sound, opened}
+use Rattle.steps.specs.States.{rooms_of, opened}
+use Rattle.steps.specs.Sound.{Lists, Sound}
 
 abbrev empty : Stored
 empty = record { actions = []; leaves = []; nodes = [] }

@@ -20,10 +20,11 @@ use Rattle.faults.specs.declared.layers.BenchFault.{BenchFault}
 use Rattle.faults.specs.declared.layers.BenchFault.TheVariants.{Store, Frame as FrameFaulty}
 use Rattle.stored.specs.Grows.{Apart, Over, size}
 use Rattle.stored.proofs.Counting.{pigeons, not_over}
-use Rattle.steps.specs.States.{State, Lists}
+use Rattle.steps.specs.States.{State}
+use Rattle.steps.specs.Sound.{Lists}
 use Rattle.steps.specs.Steps.{Call, Reply, Word, Installed, Written, Refused, install_operand, Refuses, not_held, full, table_full, no_frame, Sends, Step, refused, built, installed, sent}
 use Rattle.steps.proofs.Building.{same_diagram, some_not_none, built_once, built_held, unheld_once}
-use Rattle.steps.proofs.Forwarding.{no_fault, same_frame, in_to, table_emits}
+use Rattle.steps.proofs.Forwarding.{its_rows, no_fault, same_frame, in_to, table_emits}
 
 never_before : (s : List ℕ) → before s s ≡ true → ⊥
 never_before s e = true≢false (sym e ∙ asymmetric s s e)
@@ -57,22 +58,22 @@ frame_fault_once o rows ws n NoRoom NoRoom h k = refl
 
 -- one reason
 
-fault_once : (o : Ops) (s : State) → Lists o s.table → (c : Call) (f g : BenchFault) → Refuses o s c f → Refuses o s c g → f ≡ g
-fault_once o s t c f g (not_held {place = i} u) (not_held {place = j} v) = ap {B = BenchFault} (λ (i : ℕ). Store (NotHeld i)) (unheld_once s.stored c i j u v)
-fault_once o s t c f g (not_held {place = i} u) (full {r = r} {asks = a} b h) = absurd (built_held o s.stored c r a i b u)
-fault_once o s t c f g (not_held (install_operand {x = x} n)) (table_full {d = d} p l) = absurd (some_not_none s.stored x d p n)
-fault_once o s t c f g (not_held u) (no_frame k) = elim u [ ]
-fault_once o s t c f g (full {r = r} {asks = a} b h) (not_held {place = i} u) = absurd (built_held o s.stored c r a i b u)
-fault_once o s t c f g (full b h) (full b' h') = refl
-fault_once o s t c f g (full b h) (table_full p l) = elim b [ ]
-fault_once o s t c f g (full b h) (no_frame k) = elim b [ ]
-fault_once o s t c f g (table_full {x = x} {d = d} p l) (not_held (install_operand n)) = absurd (some_not_none s.stored x d p n)
-fault_once o s t c f g (table_full p l) (full b h) = elim b [ ]
-fault_once o s t c f g (table_full p l) (table_full p' l') = refl
-fault_once o s t c f g (no_frame k) (not_held u) = elim u [ ]
-fault_once o s t c f g (no_frame k) (full b h) = elim b [ ]
-fault_once o s t c f g (no_frame {ws = ws} {n = n} {f = x} k) (no_frame {f = y} k') =
-    ap {B = BenchFault} FrameFaulty (frame_fault_once o (rows_of t.listed) ws n x y (k (rows_of t.listed) t.legal t.words) (k' (rows_of t.listed) t.legal t.words))
+pub fault_once : {o : Ops} → Laws o → (s : State) → Lists o s.table → (c : Call) (f g : BenchFault) → Refuses o s c f → Refuses o s c g → f ≡ g
+fault_once {o} L s t c f g (not_held {place = i} u) (not_held {place = j} v) = ap {B = BenchFault} (λ (i : ℕ). Store (NotHeld i)) (unheld_once s.stored c i j u v)
+fault_once {o} L s t c f g (not_held {place = i} u) (full {r = r} {asks = a} b h) = absurd (built_held o s.stored c r a i b u)
+fault_once {o} L s t c f g (not_held (install_operand {x = x} n)) (table_full {d = d} p l) = absurd (some_not_none s.stored x d p n)
+fault_once {o} L s t c f g (not_held u) (no_frame h k) = elim u [ ]
+fault_once {o} L s t c f g (full {r = r} {asks = a} b h) (not_held {place = i} u) = absurd (built_held o s.stored c r a i b u)
+fault_once {o} L s t c f g (full b h) (full b' h') = refl
+fault_once {o} L s t c f g (full b h) (table_full p l) = elim b [ ]
+fault_once {o} L s t c f g (full b h) (no_frame h' k) = elim b [ ]
+fault_once {o} L s t c f g (table_full {x = x} {d = d} p l) (not_held (install_operand n)) = absurd (some_not_none s.stored x d p n)
+fault_once {o} L s t c f g (table_full p l) (full b h) = elim b [ ]
+fault_once {o} L s t c f g (table_full p l) (table_full p' l') = refl
+fault_once {o} L s t c f g (no_frame h k) (not_held u) = elim u [ ]
+fault_once {o} L s t c f g (no_frame h' k) (full b h) = elim b [ ]
+fault_once {o} L s t c f g (no_frame {ws = ws} {n = n} {f = x} {rows = rows} h k) (no_frame {f = y} {rows = rows'} h' k') =
+    ap {B = BenchFault} FrameFaulty (frame_fault_once o rows ws n x y k (subst (λ (u : List Row). FrameRefused o u ws n y) (its_rows L s.table t rows' h' ∙ sym (its_rows L s.table t rows h)) k'))
 
 -- not both
 
@@ -137,15 +138,15 @@ module _ {o : Ops} (L : Laws o) where
   accepted s t c r s' f (built {r = d} {asks = a} {w = w} {m = m} b g) (full {r = d'} {asks = a'} b' h) =
       absurd (not_over s.rooms s.stored a m g.adds g.fits (subst (Over (size s.rooms) s.stored) (sym (built_once o s.stored c d d' a a' b b').1) h))
   accepted s t c r s' f (built b g) (table_full p l) = elim b [ ]
-  accepted s t c r s' f (built b g) (no_frame k) = elim b [ ]
+  accepted s t c r s' f (built b g) (no_frame h k) = elim b [ ]
   accepted s t c r s' f (installed {x = x} {d = d} p l) (not_held (install_operand n)) = absurd (some_not_none s.stored x d p n)
   accepted s t c r s' f (installed p l) (full b h) = elim b [ ]
   accepted s t c r s' f (installed {x = x} {d = d} p l) (table_full {d = e} q k) =
       absurd (let same : length (table_words (rows_of e)) ≡ length (table_words (rows_of d)) = ap (λ (u : Diagram). length (table_words (rows_of u))) (same_diagram s.stored x e d q p) in omega (arith, same, l, k))
-  accepted s t c r s' f (sent k) (not_held u) = elim u [ ]
-  accepted s t c r s' f (sent k) (full b h) = elim b [ ]
-  accepted s t c r s' f (sent {ws = ws} {n = n} {out = out} k) (no_frame {f = x} h) =
-      absurd (sent_fits t.listed t.formed ws n out x (k (rows_of t.listed) t.legal t.words) (h (rows_of t.listed) t.legal t.words))
+  accepted s t c r s' f (sent h k) (not_held u) = elim u [ ]
+  accepted s t c r s' f (sent h' k) (full b h) = elim b [ ]
+  accepted s t c r s' f (sent {ws = ws} {n = n} {out = out} {rows = rows} h k) (no_frame {f = x} {rows = rows'} h' k') =
+      absurd (sent_fits t.listed t.formed ws n out x (subst (λ (u : List Row). Sends o u ws n out) (its_rows L s.table t rows h) k) (subst (λ (u : List Row). FrameRefused o u ws n x) (its_rows L s.table t rows' h') k'))
 
 abbrev is_refused : Reply → Bool
 is_refused (Word w) = false
@@ -166,14 +167,14 @@ refused_for : (o : Ops) (s : State) (c : Call) (r : Reply) (s' : State) (f : Ben
 refused_for o s c r s' f (refused h) e = subst (Refuses o s c) (ap fault_of e) h
 refused_for o s c r s' f (built {w = w} b g) e = absurd (not_so (Word w) f refl e)
 refused_for o s c r s' f (installed p l) e = absurd (not_so Installed f refl e)
-refused_for o s c r s' f (sent {out = out} k) e = absurd (not_so (Written out) f refl e)
+refused_for o s c r s' f (sent {out = out} h k) e = absurd (not_so (Written out) f refl e)
 
 -- a call is refused exactly where a condition holds for it
 pub exactly : {o : Ops} → Laws o → (s : State) → Lists o s.table → (c : Call) (r : Reply) (s' : State) → Step o s c r s' → (f : BenchFault) → (r ≡ Refused f) ↔ Refuses o s c f
 exactly {o} L s t c r s' h f = (refused_for o s c r s' f h, back)
   where
     back : Refuses o s c f → r ≡ Refused f
-    back k = R.1 ∙ ap {B = Reply} Refused (fault_once o s t c R.0 f (refused_for o s c r s' R.0 h R.1) k)
+    back k = R.1 ∙ ap {B = Reply} Refused (fault_once L s t c R.0 f (refused_for o s c r s' R.0 h R.1) k)
       where
         R : (g : BenchFault) × (r ≡ Refused g)
         R = accepted L s t c r s' f h k

@@ -10,7 +10,8 @@ use Rattle.requests.specs.Claims.{Held}
 use Rattle.stored.specs.Stored.{diagram, Has}
 use Rattle.stored.proofs.Growth.{one_word, all_inside, records_more, diagram_formed as formed_of}
 use Rattle.stored.proofs.Counting.{contents, in_contents, few_contents}
-use Rattle.steps.specs.States.{State, SoundStores}
+use Rattle.steps.specs.States.{State}
+use Rattle.steps.specs.Sound.{SoundStores}
 use Rattle.steps.proofs.Names.{names, length_names, held_named}
 
 pub diagram_formed : (o : Ops) (s : State) → SoundStores o s → (w : ℕ) (d : Diagram) → diagram s.stored w ≡ Some d → Formed o d

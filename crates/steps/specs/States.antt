@@ -1,14 +1,11 @@
 -- What a bench holds.
-use Rattle.std.specs.Prelude.{◌≡◌, ℕ, ◌+◌, ◌<◌, ◌≤◌, List, []}
-use Rattle.format.specs.Words.{value_end}
+use Rattle.std.specs.Prelude.{◌≡◌, ℕ, List, []}
 use Rattle.weights.specs.Weights.{Ops}
 use Rattle.counts.specs.declared.memory.Sizes.{Sizes}
-use Rattle.meaning.specs.Diagrams.{Diagram, Formed}
 use Rattle.meaning.specs.Constructions.{drop_diagram}
-use Rattle.tables.specs.Rows.{LegalRows, table_words}
+use Rattle.tables.specs.Rows.{Row, LegalRows, table_words}
 use Rattle.listing.specs.Rows.{rows_of}
 use Rattle.stored.specs.Stored.{Stored, Rooms}
-use Rattle.stored.specs.Whole.{Whole, AllFormed}
 
 pub record State : Type 0 where
   pub stored : Stored
@@ -17,24 +14,10 @@ pub record State : Type 0 where
   pub table : List ℕ
   pub table_room : ℕ
 
--- the table in force lists a formed diagram
-pub record Lists (o : Ops) (table : List ℕ) : Type 0 where
-  pub listed : Diagram
-  pub formed : Formed o listed
-  pub legal : LegalRows o (rows_of listed)
-  pub words : table ≡ table_words (rows_of listed)
-
--- the stores are whole, and hold records of formed diagrams only
-pub record SoundStores (o : Ops) (s : State) : Type 0 where
-  pub whole : Whole s.rooms s.stored
-  pub formed : AllFormed o s.stored
-  -- there is room for fewer records than a word has values
-  pub few : s.rooms.actions + s.rooms.cells + s.rooms.nodes < value_end
-
-pub record Sound (o : Ops) (s : State) : Type 0 where
-  pub stores : SoundStores o s
-  pub table : Lists o s.table
-  pub countable : s.table_room ≤ value_end
+-- these words are the table of these legal rows
+pub record TableOf (o : Ops) (table : List ℕ) (rows : List Row) : Type 0 where
+  pub legal : LegalRows o rows
+  pub words : table ≡ table_words rows
 
 abbrev pub rooms_of : Sizes → Rooms
 rooms_of z = record { actions = z.actions; cells = z.cells; nodes = z.nodes }

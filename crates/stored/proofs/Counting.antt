@@ -11,7 +11,6 @@ use Rattle.stored.specs.Stored.{Rooms, Stored, Has}
 use Rattle.stored.specs.Grows.{Kind, actions, cells, nodes, kind_of, size, Fits, Adds, Apart, Over}
 use Rattle.stored.specs.Whole.{Whole}
 use Rattle.stored.proofs.Numbers.{each_in, numbered_in}
-use Rattle.stored.proofs.Growth.{has_grown}
 
 -- no more elements that differ are in a list than it has
 
@@ -114,14 +113,10 @@ not_over z s asks s' g t o =
     let c = o.too_many in
     omega (arith, a, b, c)
   where
-    there : (q : Request) → Has s q ⊎ In q asks → Has s' q
-    there q (inl k) = has_grown s s' g.grown q k
-    there q (inr j) = each_in (Has s') asks g.asked q j
-
     inside : (q : Request) → In q o.records → In q (part s' o.kind)
     inside q i =
         subst (λ (k : Kind). In q (part s' k)) (each_in (λ q. kind_of q ≡ o.kind) o.records o.of_kind q i)
-        (in_own_part s' q (there q (each_in (λ q. Has s q ⊎ In q asks) o.records o.held_or_asked q i)))
+        (in_own_part s' q ((g.exactly q).1 (each_in (λ q. Has s q ⊎ In q asks) o.records o.held_or_asked q i)))
 
 -- all records in store
 unfoldable pub contents : Stored → List Request

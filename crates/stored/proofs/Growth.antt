@@ -11,9 +11,9 @@ use Rattle.meaning.specs.Leaves.{Action, Cell, Each, LeafFormed}
 use Rattle.meaning.specs.Diagrams.{Diagram, Leaf, Node, Formed}
 use Rattle.requests.specs.Requests.{Request, action, cell, node, leaf_records, Records, RecordFormed}
 use Rattle.stored.specs.Stored.{Rooms, Stored, diagram, leaf_in, Has, Grown}
-use Rattle.stored.specs.Grows.{Fits, Adds, LeafAmong, NodeAmong}
+use Rattle.stored.specs.Grows.{Fits, Adds}
 use Rattle.stored.specs.Whole.{Inside, Whole, AllFormed}
-use Rattle.stored.proofs.Numbers.{each_in, each_weaker, numbered_split, numbered_grown, get_grown}
+use Rattle.stored.proofs.Numbers.{each_in, in_each, each_weaker, numbered_grown, get_grown}
 
 -- a word and what it is the word of
 pub data Standing (s : Stored) (w : ℕ) : Diagram → Type 0 where
@@ -134,49 +134,19 @@ pub more_records : (s s' : Stored) → Grown s s' → (d : Diagram) → Records 
 more_records s s' g d h = records_more (Has s) (Has s') (has_grown s s' g) d h
 
 module _ (s : Stored) (asks : List Request) (s' : Stored) (g : Adds s asks s') where
-  -- nothing else was added
-  pub old_or_asked : (q : Request) → Has s' q → Has s q ⊎ In q asks
-  old_or_asked (action a) (n, e) = go (numbered_split s.actions g.grown.new_actions n a (subst (λ (xs : List Action). Numbered xs n a) g.grown.actions_grown e))
-    where
-      go : Numbered s.actions n a ⊎ In a g.grown.new_actions → Has s (action a) ⊎ In (action a) asks
-      go (inl p) = inl (n, p)
-      go (inr i) = inr (each_in (λ a. In (action a) asks) g.grown.new_actions g.actions_asked a i)
-  old_or_asked (cell a w l) (n, e) = go (numbered_split s.leaves g.grown.new_leaves n ((a, w) ∷ l) (subst (λ (xs : List (List Cell)). Numbered xs n ((a, w) ∷ l)) g.grown.leaves_grown e))
-    where
-      go : Numbered s.leaves n ((a, w) ∷ l) ⊎ In ((a, w) ∷ l) g.grown.new_leaves → Has s (cell a w l) ⊎ In (cell a w l) asks
-      go (inl p) = inl (n, p)
-      go (inr i) = inr (each_in (LeafAmong asks) g.grown.new_leaves g.leaves_asked ((a, w) ∷ l) i)
-  old_or_asked (node f m y z) (n, e) = go (numbered_split s.nodes g.grown.new_nodes n (Node f m y z) (subst (λ (xs : List Diagram). Numbered xs n (Node f m y z)) g.grown.nodes_grown e))
-    where
-      go : Numbered s.nodes n (Node f m y z) ⊎ In (Node f m y z) g.grown.new_nodes → Has s (node f m y z) ⊎ In (node f m y z) asks
-      go (inl p) = inl (n, p)
-      go (inr i) = inr (each_in (NodeAmong asks) g.grown.new_nodes g.nodes_asked (Node f m y z) i)
+  pub asked_there : Each (Has s') asks
+  asked_there = in_each (Has s') asks (λ q i. (g.exactly q).1 (inr i))
 
   -- stores that were whole stay whole
   pub whole_after : (z : Rooms) → Whole z s → Fits z s' → Each (Inside (Has s')) asks → Whole z s'
-  whole_after z h t i =
-      record {
-        once = g.once;
-        fits = t;
-        no_drop = λ n e. drop_new n (numbered_split s.leaves g.grown.new_leaves n [] (subst (λ (xs : List (List Cell)). Numbered xs n []) g.grown.leaves_grown e));
-        no_leaf = λ l n e. leaf_new l n (numbered_split s.nodes g.grown.new_nodes n (Leaf l) (subst (λ (xs : List Diagram). Numbered xs n (Leaf l)) g.grown.nodes_grown e));
-        inside = λ q k. go q (old_or_asked q k);
-      }
+  whole_after z h t i = record { once = g.once; fits = t; no_drop = g.no_drop; no_leaf = g.no_leaf; inside = λ q k. go q ((g.exactly q).0 k) }
     where
-      drop_new : (n : ℕ) → Numbered s.leaves n [] ⊎ In [] g.grown.new_leaves → ⊥
-      drop_new n (inl p) = h.no_drop n p
-      drop_new n (inr j) = each_in (LeafAmong asks) g.grown.new_leaves g.leaves_asked [] j
-
-      leaf_new : (l : List Cell) (n : ℕ) → Numbered s.nodes n (Leaf l) ⊎ In (Leaf l) g.grown.new_nodes → ⊥
-      leaf_new l n (inl p) = h.no_leaf l n p
-      leaf_new l n (inr j) = each_in (NodeAmong asks) g.grown.new_nodes g.nodes_asked (Leaf l) j
-
       go : (q : Request) → Has s q ⊎ In q asks → Inside (Has s') q
       go q (inl k) = inside_more (Has s) (Has s') (has_grown s s' g.grown) q (h.inside q k)
       go q (inr j) = each_in (Inside (Has s')) asks i q j
 
   pub formed_after : {o : Ops} → AllFormed o s → Each (RecordFormed o) asks → AllFormed o s'
-  formed_after {o} h i q k = go (old_or_asked q k)
+  formed_after {o} h i q k = go ((g.exactly q).0 k)
     where
       go : Has s q ⊎ In q asks → RecordFormed o q
       go (inl k) = h q k

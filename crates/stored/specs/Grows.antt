@@ -1,9 +1,9 @@
 -- What constructions do to the stores.
-use Rattle.std.specs.Prelude.{◌≡◌, ℕ, ◌<◌, ◌≤◌, ◌⊎◌, List, [], ◌∷◌, Some, length}
+use Rattle.std.specs.Prelude.{◌≡◌, ℕ, ◌<◌, ◌≤◌, ◌⊎◌, ◌↔◌, List, [], ◌∷◌, Some, length}
 use Rattle.weights.specs.Order.{In}
-use Rattle.stores.specs.Numbers.{Distinct}
+use Rattle.stores.specs.Numbers.{Absent, Distinct}
 use Rattle.meaning.specs.Leaves.{Cell, Each}
-use Rattle.meaning.specs.Diagrams.{Diagram, Leaf, Node}
+use Rattle.meaning.specs.Diagrams.{Diagram, Leaf}
 use Rattle.requests.specs.Requests.{Request, action, cell, node}
 use Rattle.stored.specs.Stored.{Rooms, Stored, diagram, Has, Grown}
 
@@ -34,24 +34,16 @@ pub record Fits (z : Rooms) (s : Stored) : Type 0 where
   pub leaves : length s.leaves ≤ z.cells
   pub nodes : length s.nodes ≤ z.nodes
 
--- the leaf's first cell is one of the records
-abbrev pub LeafAmong : List Request → List Cell → Type 0
-LeafAmong qs [] = ⊥
-LeafAmong qs (c ∷ l) = In (cell c.0 c.1 l) qs
-
-abbrev pub NodeAmong : List Request → Diagram → Type 0
-NodeAmong qs (Leaf l) = ⊥
-NodeAmong qs (Node f n y z) = In (node f n y z) qs
-
 -- from s to s' exactly the records asked for were added
 pub record Adds (s : Stored) (asks : List Request) (s' : Stored) : Type 0 where
+  -- each list is the old one and new ones behind it
   pub grown : Grown s s'
   pub once : Once s'
-  pub asked : Each (Has s') asks
-  -- each new record is one of them
-  pub actions_asked : Each (λ a. In (action a) asks) grown.new_actions
-  pub leaves_asked : Each (LeafAmong asks) grown.new_leaves
-  pub nodes_asked : Each (NodeAmong asks) grown.new_nodes
+  -- a record is there exactly if it was or was asked for
+  pub exactly : (q : Request) → Has s' q ↔ (Has s q ⊎ In q asks)
+  -- nothing else is there: drop has no cell, and a leaf is no node
+  pub no_drop : Absent s'.leaves []
+  pub no_leaf : (l : List Cell) → Absent s'.nodes (Leaf l)
 
 -- the stores after an accepted construction of r, which requested asks; w is its word
 pub record Grows (z : Rooms) (s : Stored) (asks : List Request) (r : Diagram) (w : ℕ) (s' : Stored) : Type 0 where

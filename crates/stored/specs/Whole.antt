@@ -1,4 +1,4 @@
--- What holds of stores that only constructions filled.
+-- What holds of stores that only constructions filled. The law does not speak of it; its proof and the type of what holds stores do.
 use Rattle.std.specs.Prelude.{List, [], ◌∷◌}
 use Rattle.weights.specs.Weights.{Ops}
 use Rattle.stores.specs.Numbers.{Absent}

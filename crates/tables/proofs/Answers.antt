@@ -179,7 +179,7 @@ same_sent : (x : Sent) (t : List ℕ) (w : ℕ) → x.frame ≡ t → x.weight �
 same_sent x t w p q = λ i. record { frame = p i; weight = q i }
 
 -- two ascending lists of the same members are one
-ascending_same :
+pub ascending_same :
     (xs ys : List Sent) →
     Ascending (frames_of xs) →
     Ascending (frames_of ys) →

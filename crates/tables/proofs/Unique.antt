@@ -90,7 +90,8 @@ module _ {o : Ops} (laws : Laws o) where
   no_set_next [] n l h = λ e. omega (arith, e, first_kind 14 0 n [] (omega arith, h))
   no_set_next (r ∷ rs) n l h = λ e. omega (arith, e, first_kind 10 (length r.matches) (length r.emissions) [] (fit_head r l.0))
 
-  same_rows :
+  -- no words are those of two lists of legal rows
+  pub same_rows :
       (rs qs : List Row) (n m : ℕ) →
       AllByRecursion (LegalRow o) rs →
       AllByRecursion (LegalRow o) qs →
