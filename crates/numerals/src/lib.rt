@@ -5,6 +5,7 @@ ghost use Rattle.std.specs.Prelude.{Some, decimal};
 ghost use Rattle.numerals.specs.Numerals.{hex_word};
 
 mod each;
+mod printed;
 
 pub use each::write_each;
 use std::fmt;
