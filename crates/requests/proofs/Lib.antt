@@ -8,3 +8,4 @@ pub mod Followed
 pub mod Compiled
 pub mod Holding
 pub mod Claims
+pub mod Again

@@ -1,3 +1,4 @@
 pub mod Requests
 pub mod Rules
 pub mod Claims
+pub mod Again
