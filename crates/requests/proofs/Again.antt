@@ -1,21 +1,21 @@
 -- Constructions that give an operand back, and request nothing that is not held. Assumes nothing.
-use Rattle.std.proofs.Common.{◌≡◌, ℕ, zero, suc, ◌≢◌, List, [], ◌∷◌, ◌++◌, map, length, get_or, replicate, Some, None, Option, sym, refl, ap, ap₂, ◌∙◌, subst, subst₂, arith}
+use Rattle.std.proofs.Common.{◌≡◌, Bool, true, false, true≢false, ℕ, zero, suc, ◌≢◌, List, [], ◌∷◌, ◌++◌, map, length, get_or, replicate, Some, None, Option, sym, refl, ap, ap₂, ◌∙◌, subst, subst₂, arith}
 use Rattle.std.proofs.lemmas.List.{append-nil}
 use Rattle.format.specs.Fields.{fields}
 use Rattle.format.specs.Actions.{last_set, compose, keep_all}
 use Rattle.weights.specs.Weights.{Ops, Laws, Weight}
-use Rattle.meaning.specs.Decide.{three, Tri, below, level, above}
+use Rattle.meaning.specs.Decide.{decide, three, Tri, below, level, above}
 use Rattle.meaning.specs.Leaves.{Action, Cell, Each, CellFormed, LeafFormed, collect}
 use Rattle.meaning.specs.Diagrams.{Diagram, Leaf, Node, known, narrow, SetsOf, Sets, Unlike}
 use Rattle.meaning.specs.Constructions.{Tested, off, equal_tests, order_tests, cells_of, prefix_cell}
-use Rattle.meaning.proofs.Gathering.{choice_yes, each_map, each_append, Weights, gather_weight, gather_append, gather_collect, chosen_additive, equal_actions}
+use Rattle.meaning.proofs.Gathering.{choice_yes, choice_no, each_map, each_append, Weights, gather_weight, gather_append, gather_collect, chosen_additive, equal_actions}
 use Rattle.meaning.proofs.Narrowing.{known_there, known_only, sets_map, cells_all, sets_narrows}
 use Rattle.meaning.proofs.Making.{leaf_tidy, leaves_equal, collect_tidy, collect_same, narrows_still}
-use Rattle.meaning.proofs.Simple.{keep_sets}
-use Rattle.requests.specs.Requests.{Request, node, leaf_records}
-use Rattle.requests.specs.Rules.{narrow_leaf, Narrows, narrows_leaf, narrows_yes, narrows_no, narrows_both, Makes, makes_no, makes_node, at_root, at_other, Joins, joins_leaves, joins_split, prefix_leaf, Prefixes, prefixes_leaf, prefixes_both}
+use Rattle.meaning.proofs.Simple.{keep_formed, keep_sets, single_cells, single_formed}
+use Rattle.requests.specs.Requests.{Request, action, cell, node, leaf_records}
+use Rattle.requests.specs.Rules.{narrow_leaf, Narrows, narrows_leaf, narrows_yes, narrows_no, narrows_both, Makes, makes_no, makes_node, at_root, at_other, Joins, joins_leaves, joins_split, prefix_leaf, pass_cells, Prefixes, prefixes_leaf, prefixes_both}
 use Rattle.requests.specs.Claims.{Construction}
-use Rattle.requests.specs.Again.{Free, Again, Remade}
+use Rattle.requests.specs.Again.{Free, Again, Remade, RecordRemade}
 use Rattle.requests.proofs.Acting.{narrow_of_leaf}
 use Rattle.requests.proofs.Unique.{none_some}
 
@@ -31,6 +31,16 @@ module _ {H H' : Request → Type 0} (more : (q : Request) → H q → H' q) whe
 
   pub remade_more : {o : Ops} {f n : ℕ} {y z : Diagram} → Remade o H f n y z → Remade o H' f n y z
   remade_more r = record { yes_free = r.yes_free; again = again_more r.again }
+
+  pub record_more : (o : Ops) (q : Request) → RecordRemade o H q → RecordRemade o H' q
+  record_more o (action a) r = r
+  record_more o (cell a w l) r = r
+  record_more o (node f n y z) r = remade_more r
+
+-- a leaf has no node
+pub leaf_remade : (o : Ops) (H : Request → Type 0) (l : List Cell) → Each (RecordRemade o H) (leaf_records l)
+leaf_remade o H [] = tt
+leaf_remade o H (c ∷ l) = (tt, (tt, leaf_remade o H l))
 
 module _ (H : Request → Type 0) where
   same_leaf : {R : Construction} (l l' : List Cell) → l' ≡ l → R (Leaf l') (leaf_records l') → Each H (leaf_records l) → Again H R (Leaf l)
@@ -207,6 +217,36 @@ module _ {o : Ops} (L : Laws o) where
         unset : (x : Option ℕ) → get_or keep_all f None ≡ x → get_or keep_all f None ≡ None
         unset None e = e
         unset (Some m) e = absurd (keep_sets (λ g k. ⊥) f m e)
+
+    -- the node of a test that passes or drops
+    pub test_remade : (f n : ℕ) → Each H (leaf_records (pass_cells o)) → H (node f n (Leaf (pass_cells o)) (Leaf [])) → Remade o H f n (Leaf (pass_cells o)) (Leaf [])
+    test_remade f n h t =
+        record {
+          yes_free = free;
+          again =
+              let V = narrowed (Leaf (pass_cells o)) f n (pass_formed, h) free in
+              record {
+                asks = V.asks ++ ([] ++ (node f n (Leaf (pass_cells o)) (Leaf []) ∷ []));
+                by_the_rules = makes_node V.by_the_rules narrows_leaf differ;
+                held = held_three H V.asks [] (node f n (Leaf (pass_cells o)) (Leaf []) ∷ []) V.held tt (t, tt);
+              };
+        }
+      where
+        pass_formed : LeafFormed o (pass_cells o)
+        pass_formed = single_formed L keep_all o.one keep_formed L.one_weight
+
+        free : Free f n (Leaf (pass_cells o))
+        free = (tt, single_cells L (λ c. SetsOf (Unlike f n) c.0) keep_all o.one (keep_sets (Unlike f n)))
+
+        one_alone : pass_cells o ≡ (keep_all, o.one) ∷ []
+        one_alone = choice_no (decide o.one o.zero) [] ((keep_all, o.one) ∷ []) L.one_is_not_zero
+
+        filled : List Cell → Bool
+        filled [] = false
+        filled (c ∷ l) = true
+
+        differ : Leaf (pass_cells o) ≢ Leaf []
+        differ e = true≢false (ap filled (sym one_alone ∙ ap cells_of e))
 
     -- a node of a narrowed yes side makes itself again
     pub remade :
