@@ -33,3 +33,4 @@ pub mod OperationsAlike
 pub mod SimpleRules
 pub mod Words
 pub mod Steps
+pub mod Unchanged

@@ -3,7 +3,13 @@ use Rattle.std.specs.List.{slice_get}
 use Rattle.std.proofs.Math.ListN.{replicate}
 use Rattle.std.proofs.Common.{◌≡◌, ℕ, zero, suc, ◌⊎◌, List, [], Some, None, Option, Ok, Err, Result, OnOk, sym, refl, ap, ◌∙◌, subst, inl, inr}
 use Rattle.weights.specs.Weights.{Ops}
+use Rattle.weights.specs.Order.{In}
+use Rattle.meaning.specs.Leaves.{Cell as MCell, Each}
+use Rattle.meaning.proofs.Starring.{each_in}
+use Rattle.requests.specs.Requests.{Request, leaf_records}
 use Rattle.requests.specs.Claims.{Construction}
+use Rattle.requests.specs.Again.{RecordRemade}
+use Rattle.requests.proofs.Again.{record_more, leaf_remade}
 use Rattle.faults.specs.declared.layers.StoreFault.{StoreFault}
 use Rattle.records.specs.declared.kinds.Diagram.{Diagram}
 use Rattle.counts.specs.declared.counts.Counts.{Counts}
@@ -12,10 +18,10 @@ use Rattle.engine.specs.declared.memo.Entry.{Entry}
 use Rattle.engine.specs.declared.memo.Operation.{Operation}
 use Rattle.engine.specs.declared.memo.Operation.TheVariants.{Narrow, Join, Choose, Prefix, Sequence, Not}
 use Rattle.engine.specs.Built.{numbered_or}
-use Rattle.engine.specs.State.{State, Present, Names, Grown}
+use Rattle.engine.specs.State.{State, Present, Names, Has, Grown}
 use Rattle.engine.specs.Cells.{LeavesFormed}
-use Rattle.engine.specs.Done.{Good, Done}
-use Rattle.engine.specs.Memo.{Written, asked_for, Fits, Remembered, Remembers, Noted, Recalled}
+use Rattle.engine.specs.Done.{Good, Done, Added}
+use Rattle.engine.specs.Memo.{Written, asked_for, Fits, Remembered, Remembers, AllRemade, Noted, Recalled}
 use Rattle.engine.proofs.Numbers.{each_map, or_grown}
 use Rattle.engine.proofs.Composing.{names_grown, has_grown, same_diagram, present_grown, grown_refl, complete, kept_refl}
 use Rattle.engine.proofs.Alike.{narrows_alike, joins_alike, chooses_alike, prefixes_alike, sequences_alike, negates_alike}
@@ -53,14 +59,41 @@ module _ {s s' : State} (g : Grown s s') where
         held = each_map (has_grown g) r.asks r.held;
       }
 
-  pub remembers_grown : (o : Ops) (l : List (Option Entry)) → LeavesFormed o s' → Remembers o s l → Remembers o s' l
-  remembers_grown o l f m = (f, λ e h. remembered_grown o e (m.1 e h))
+  pub remembers_grown : (o : Ops) (l : List (Option Entry)) → LeavesFormed o s' → AllRemade o s' → Remembers o s l → Remembers o s' l
+  remembers_grown o l f r m = (f, λ e h. remembered_grown o e (m.1 e h), r)
+
+-- nodes are made again where those asked for are
+pub remade_after : {o : Ops} {s s' : State} {a : List Request} → Added s a s' → AllRemade o s → Each (RecordRemade o (Has s')) a → AllRemade o s'
+remade_after {o} {s} {s'} {a} g h f = λ q m. go q (g.nothing_else q m)
+  where
+    go : (q : Request) → Has s q ⊎ In q a → RecordRemade o (Has s') q
+    go q (inl k) = record_more (has_grown g.grown) o q (h q k)
+    go q (inr k) = each_in (RecordRemade o (Has s')) a f q k
+
+pub leaf_asks : (o : Ops) (H : Request → Type 0) (l : List MCell) {a : List Request} → a ≡ leaf_records l → Each (RecordRemade o H) a
+leaf_asks o H l e = subst (λ (x : List Request). Each (RecordRemade o H) x) (sym e) (leaf_remade o H l)
 
 module _ {o : Ops} where
   -- what does not touch the memo keeps it
-  pub leaf_keeps : {c c' : Counts} {s s' : Stores} {R : Construction} (l : List (Option Entry)) (result : Result Diagram StoreFault) → Remembers o (here c s) l → OnOk result (LeavesFormed o (here c' s')) → Done R c s c' s' result → OnOk result (Remembers o (here c' s') l)
-  leaf_keeps l (Ok w) m f d = remembers_grown d.made.added.grown o l f m
-  leaf_keeps l (Err e) m f d = tt
+  pub memo_keeps :
+      {c c' : Counts} {s s' : Stores} {R : Construction} (l : List (Option Entry)) (result : Result Diagram StoreFault) →
+      Remembers o (here c s) l →
+      OnOk result (LeavesFormed o (here c' s')) →
+      (d : Done R c s c' s' result) →
+      OnOk result (Each (RecordRemade o (Has (here c' s'))) d.asks) →
+      OnOk result (Remembers o (here c' s') l)
+  memo_keeps l (Ok w) m f d e = remembers_grown d.made.added.grown o l f (remade_after d.made.added m.2 e) m
+  memo_keeps l (Err e) m f d r = tt
+
+  pub leaf_keeps :
+      {c c' : Counts} {s s' : Stores} {R : Construction} (l : List (Option Entry)) (result : Result Diagram StoreFault) →
+      Remembers o (here c s) l →
+      OnOk result (LeavesFormed o (here c' s')) →
+      (d : Done R c s c' s' result) →
+      Each (RecordRemade o (Has (here c' s'))) d.asks →
+      OnOk result (Remembers o (here c' s') l)
+  leaf_keeps l (Ok w) m f d e = memo_keeps l (Ok w) m f d e
+  leaf_keeps l (Err e) m f d r = tt
 
   -- what is remembered is done
   pub recalled :
@@ -87,7 +120,7 @@ module _ {o : Ops} where
       Done (asked_for o (here c s) x left right) c s c' s' (Ok w) →
       Noted l (record { operation = x; left = left; right = right; result = w }) l' →
       Remembers o (here c' s') l'
-  noted {c} {c'} {s} {s'} l l' x left right w f p q m d n = (m.0, λ e h. go e (n e h))
+  noted {c} {c'} {s} {s'} l l' x left right w f p q m d n = (m.0, λ e h. go e (n e h), m.2)
     where
       g : Grown (here c s) (here c' s')
       g = d.made.added.grown

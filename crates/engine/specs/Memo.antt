@@ -7,6 +7,7 @@ use Rattle.meaning.specs.Diagrams.{Diagram as MDiagram}
 use Rattle.requests.specs.Requests.{Request}
 use Rattle.requests.specs.Rules.{Narrows, Joins, Chooses, Prefixes, Sequences, Negates}
 use Rattle.requests.specs.Claims.{Construction}
+use Rattle.requests.specs.Again.{RecordRemade}
 use Rattle.records.specs.declared.kinds.Diagram.{Diagram}
 use Rattle.engine.specs.declared.memo.Entry.{Entry}
 use Rattle.engine.specs.State.{State, Names, Present, Has, diagram_of}
@@ -49,9 +50,13 @@ pub record Remembered (o : Ops) (s : State) (e : Entry) : Type 0 where
 abbrev pub NothingWritten : List (Option Entry) → Type 0
 NothingWritten l = (e : Entry) → Written l e → ⊥
 
--- the leaves in store are well-formed, and each entry is remembered
+-- every node in store is made again of what is in store
+abbrev pub AllRemade : Ops → State → Type 0
+AllRemade o s = (q : Request) → Has s q → RecordRemade o (Has s) q
+
+-- the leaves in store are well-formed, each entry is remembered, and the nodes are made again
 abbrev pub Remembers : Ops → State → List (Option Entry) → Type 0
-Remembers o s l = LeavesFormed o s × ((e : Entry) → Written l e → Remembered o s e)
+Remembers o s l = LeavesFormed o s × ((e : Entry) → Written l e → Remembered o s e) × AllRemade o s
 
 abbrev pub Noted : List (Option Entry) → Entry → List (Option Entry) → Type 0
 Noted l e l' = (f : Entry) → Written l' f → Written l f ⊎ (f ≡ e)

@@ -11,6 +11,7 @@ use Rattle.engine.proofs.Alike.{negates_alike, makes_alike}
 use Rattle.engine.proofs.Sides.{negate_sides, stops_first, stops_second, made_of_both, yes_less2, no_less2}
 use Rattle.engine.specs.declared.memo.Operation.TheVariants.{Not}
 use Rattle.engine.proofs.Remembering.{recalled, noted, leaf_keeps}
+use Rattle.engine.proofs.Unchanged.{negated_asks}
 use Rattle.engine.proofs.negating.+negating.Goals as goal
 
 pub negate_node-returns-in-Leaf-clause-done : goal.negate_node-returns-in-Leaf-clause-done
@@ -75,4 +76,4 @@ pub negate-returns-clause-memo : goal.negate-returns-clause-memo
 negate-returns-clause-memo g t c = noted _ _ Not c.args.diagram c.args.diagram _ tt c.requires.present c.requires.present c.in_ok-result.ensures.memo c.in_ok-result.ensures.done c.note.ensures
 
 pub negate_node-returns-in-Leaf-clause-memo : goal.negate_node-returns-in-Leaf-clause-memo
-negate_node-returns-in-Leaf-clause-memo g t c = leaf_keeps _ _ c.requires.memo c.negated_leaf.ensures.leaves c.negated_leaf.ensures.done
+negate_node-returns-in-Leaf-clause-memo g t c = leaf_keeps _ _ c.requires.memo c.negated_leaf.ensures.leaves c.negated_leaf.ensures.done (negated_asks _ c.negated_leaf.ensures.done.by_the_rules)

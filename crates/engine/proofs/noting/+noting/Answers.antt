@@ -8,7 +8,8 @@ use Rattle.engine.proofs.Composing.{kept_trans, same_diagram, present_grown, its
 use Rattle.engine.proofs.Numbers.{never, le_trans_by, part_smaller3, parts_smaller3, side_smaller3}
 use Rattle.engine.proofs.NarrowRules.{here, leaf_word, node_counted, narrows_small, make_stops_first, make_stops_second, make_same, make_enters, make_yes, make_no, narrow_at_leaf, narrow_yes, narrow_no, narrow_stops_first, narrow_stops_second, narrow_makes, yes_narrowed}
 use Rattle.engine.specs.declared.memo.Operation.TheVariants.{Narrow}
-use Rattle.engine.proofs.Remembering.{recalled, noted, leaf_keeps}
+use Rattle.engine.proofs.Remembering.{recalled, noted, leaf_keeps, leaf_asks}
+use Rattle.engine.proofs.Unchanged.{node_keeps}
 use Rattle.engine.proofs.LeafRules.{node_leaves}
 use Rattle.engine.proofs.noting.+noting.Goals as goal
 
@@ -135,10 +136,23 @@ narrow_node-returns-clause-done g t c = rw c.in-Branch.is
     (narrow_no _ c.requires.good c.args.test.field c.args.test.value c.node-root.ensures c.if-root-test.false c.if-root-test-2.false c.narrow-2.ensures.done)
 
 pub narrow_node-returns-in-Leaf-clause-memo : goal.narrow_node-returns-in-Leaf-clause-memo
-narrow_node-returns-in-Leaf-clause-memo g t c = leaf_keeps _ _ c.requires.memo c.narrow_leaf.ensures.leaves c.narrow_leaf.ensures.done
+narrow_node-returns-in-Leaf-clause-memo g t c = leaf_keeps _ _ c.requires.memo c.narrow_leaf.ensures.leaves c.narrow_leaf.ensures.done (leaf_asks _ _ _ c.narrow_leaf.ensures.done.by_the_rules.1)
 
 pub make-returns-clause-memo : goal.make-returns-clause-memo
-make-returns-clause-memo g t c = leaf_keeps _ _ c.in_ok-narrowed_no.ensures.memo (node_leaves _ c.in_ok-narrowed_no.ensures.memo.0 c.enter_node.ensures.done) c.enter_node.ensures.done
+make-returns-clause-memo g t c =
+    let d = c.in_ok-narrowed_yes.ensures.done in
+    let i = itself (here c.args.counts.now c.args.stores.now) c.args.no c.requires.no in
+    let e = same_diagram d.made.added.grown c.args.no c.requires.no in
+    let k = c.in_ok-narrowed_yes.ensures.kept in
+    let d2 = c.in_ok-narrowed_no.ensures.done in
+    let k2 = c.in_ok-narrowed_no.ensures.kept in
+    node_keeps g.met.K.WeightKind.lawful c.args.yes c.args.no _ _ c.requires.yes d e d2
+    (λ h. never _ c.if-eq.ensures ((diagrams_told _ _).1 h))
+    c.in_ok-narrowed_no.ensures.memo
+    (make_yes c.requires.good i d k e d2 k2).stands
+    (make_no c.requires.good i d k e d2 k2).stands
+    c.enter_node.ensures.done
+    (node_leaves _ c.in_ok-narrowed_no.ensures.memo.0 c.enter_node.ensures.done)
 
 pub narrow-returns-in-Some-clause-done : goal.narrow-returns-in-Some-clause-done
 narrow-returns-in-Some-clause-done g t c = recalled _ (Narrow c.args.test) c.args.diagram c.args.diagram c.requires.good c.requires.memo c.in-Some.ensures

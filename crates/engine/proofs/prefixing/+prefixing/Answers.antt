@@ -12,7 +12,7 @@ use Rattle.engine.specs.Cells.{action_at}
 use Rattle.engine.proofs.Reading.{action_grown, longer_still, action_counted}
 use Rattle.engine.proofs.Sides.{prefix_sides, stops_first, stops_second, made_of_both, yes_less2, no_less2}
 use Rattle.engine.specs.declared.memo.Operation.TheVariants.{Prefix}
-use Rattle.engine.proofs.Remembering.{recalled, noted, leaf_keeps}
+use Rattle.engine.proofs.Remembering.{recalled, noted, leaf_keeps, leaf_asks}
 use Rattle.engine.proofs.prefixing.+prefixing.Goals as goal
 
 pub prefix_node-returns-in-Leaf-clause-done : goal.prefix_node-returns-in-Leaf-clause-done
@@ -96,7 +96,7 @@ prefix_node-action-sets-requires-clause-held g t c =
     (h.0, action_counted _ _ c.requires.good _ h.1)
 
 pub prefix_node-returns-in-Leaf-clause-memo : goal.prefix_node-returns-in-Leaf-clause-memo
-prefix_node-returns-in-Leaf-clause-memo g t c = leaf_keeps _ _ c.requires.memo c.prefixed_leaf.ensures.leaves c.prefixed_leaf.ensures.done
+prefix_node-returns-in-Leaf-clause-memo g t c = leaf_keeps _ _ c.requires.memo c.prefixed_leaf.ensures.leaves c.prefixed_leaf.ensures.done (leaf_asks _ _ _ c.prefixed_leaf.ensures.done.by_the_rules.1)
 
 pub prefix-returns-in-Some-clause-done : goal.prefix-returns-in-Some-clause-done
 prefix-returns-in-Some-clause-done g t c = recalled _ (Prefix c.args.action c.args.weight) c.args.diagram c.args.diagram c.requires.good c.requires.memo c.in-Some.ensures

@@ -4,7 +4,7 @@ use Rattle.records.proofs.Alike.{diagrams_told}
 use Rattle.engine.proofs.Composing.{kept_trans, itself}
 use Rattle.engine.proofs.Numbers.{never}
 use Rattle.engine.proofs.StarRules.{first_made, star_ends, one_more, star_stops, pass_stops, falls_round}
-use Rattle.engine.proofs.Remembering.{remembers_grown}
+use Rattle.engine.proofs.Remembering.{remembers_grown, remade_after, leaf_asks}
 use Rattle.engine.proofs.starring.star.Goals as goal
 
 pub returns-in_err-pass-clause-done : goal.returns-in_err-pass-clause-done
@@ -13,7 +13,7 @@ returns-in_err-pass-clause-done g c =
 
 pub rounds-init : goal.rounds-init
 rounds-init g c =
-    (first_made g.met.K.WeightKind.lawful c.requires.formed c.requires.good (itself _ c.args.body c.requires.body) c.in_ok-pass.ensures.done c.in_ok-pass.ensures.kept, remembers_grown c.in_ok-pass.ensures.done.made.added.grown _ _ c.in_ok-pass.ensures.leaves c.requires.memo)
+    (first_made g.met.K.WeightKind.lawful c.requires.formed c.requires.good (itself _ c.args.body c.requires.body) c.in_ok-pass.ensures.done c.in_ok-pass.ensures.kept, remembers_grown c.in_ok-pass.ensures.done.made.added.grown _ _ c.in_ok-pass.ensures.leaves (remade_after c.in_ok-pass.ensures.done.made.added c.requires.memo.2 (leaf_asks _ _ _ c.in_ok-pass.ensures.done.by_the_rules.1)) c.requires.memo)
 
 pub returns-in_err-next-clause-done : goal.returns-in_err-next-clause-done
 returns-in_err-next-clause-done g c =

@@ -5,6 +5,7 @@ use Rattle.engine.proofs.Numbers.{falls_twice}
 use Rattle.engine.proofs.JoinRules.{join_stops_first, join_stops_second, join_stops_third, join_stops_fourth, left_names, first_smaller, two_at, offs_smaller, yes_joined, join_makes}
 use Rattle.engine.specs.declared.memo.Operation.TheVariants.{Join}
 use Rattle.engine.proofs.Remembering.{recalled, noted, leaf_keeps}
+use Rattle.engine.proofs.Unchanged.{joined_asks}
 use Rattle.engine.proofs.uniting.+uniting.Goals as goal
 
 pub join_node-returns-in_err-left_at-clause-done : goal.join_node-returns-in_err-left_at-clause-done
@@ -144,7 +145,7 @@ pub join_node-returns-clause-kept : goal.join_node-returns-clause-kept
 join_node-returns-clause-kept g t c = kept_trans (kept_trans (kept_trans (kept_trans c.at.ensures.kept c.at-2.ensures.kept) c.join.ensures.kept) c.join-2.ensures.kept) c.make.ensures.kept
 
 pub join_node-returns-in_default-clause-memo : goal.join_node-returns-in_default-clause-memo
-join_node-returns-in_default-clause-memo g t c = leaf_keeps _ _ c.requires.memo c.join_leaves.ensures.leaves c.join_leaves.ensures.done
+join_node-returns-in_default-clause-memo g t c = leaf_keeps _ _ c.requires.memo c.join_leaves.ensures.leaves c.join_leaves.ensures.done (joined_asks _ c.join_leaves.ensures.done.by_the_rules (sym c.in_default.ensures))
 
 pub join-returns-in-Some-clause-done : goal.join-returns-in-Some-clause-done
 join-returns-in-Some-clause-done g t c = recalled _ Join c.args.left c.args.right c.requires.good c.requires.memo c.in-Some.ensures
