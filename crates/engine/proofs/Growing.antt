@@ -7,7 +7,7 @@ use Rattle.weights.specs.Order.{In}
 use Rattle.meaning.specs.Leaves.{Cell as MCell}
 use Rattle.meaning.specs.Diagrams.{Diagram as MDiagram, Leaf as MLeaf}
 use Rattle.requests.specs.Requests.{Request}
-use Rattle.stores.specs.Numbers.{Numbered, room, numbers_limit}
+use Rattle.stores.specs.Numbers.{Numbered, numbers_limit}
 use Rattle.format.specs.declared.settings.Amount.{Amount}
 use Rattle.records.specs.declared.kinds.Diagram.{Diagram}
 use Rattle.records.specs.declared.kinds.Diagram.TheVariants.{Leaf, Branch}
@@ -22,6 +22,7 @@ use Rattle.stored.proofs.Growth.{Standing, a_leaf, a_node, standing, stands, has
 use Rattle.engine.specs.Built.{numbered_or}
 use Rattle.engine.specs.State.{State, state, diagram_of, Present, Names, Has, Sound}
 use Rattle.engine.specs.Done.{Kind, actions, cells, nodes, rooms, Added, Over, Good, Kept, Made}
+use Rattle.engine.specs.Views.{rooms_in}
 use Rattle.engine.proofs.Numbers.{numbered_any, numbered_value, numbered_bound}
 use Rattle.engine.proofs.Decoding.{leaf_full, node_whole, nodes_long, leaves_long}
 use Rattle.engine.proofs.Entering.{counted_bounds}
@@ -62,6 +63,14 @@ adds_of c s asks h a =
     there : (q : Request) → Has s q ⊎ In q asks → Has (state c) q
     there q (inl k) = has_grown s (state c) a.grown q k
     there q (inr j) = each_in (Has (state c)) asks a.asked q j
+
+-- the counts are the lengths of the lists
+pub lengths : (c : Counts) (s : Stores) → Good c s → (c.actions ≡ length (state (contents c s)).actions) × (c.cells ≡ length (state (contents c s)).leaves) × (c.nodes ≡ length (state (contents c s)).nodes)
+lengths c s g = (
+  sym (actions_length (contents c s) ∙ g.counted.actions_counted),
+  sym (leaves_length (contents c s) g.sound ∙ g.counted.cells_counted),
+  sym (nodes_length (contents c s) g.sound ∙ g.counted.nodes_counted),
+)
 
 -- words
 
@@ -139,10 +148,6 @@ unheld_none c s g bits h = go (diagram (state (contents c s)) bits) refl
     go (Some d) e = absurd (no d (standing S bits d e))
 
 -- how much there is room for
-
--- as many records of each kind as have slots and numbers
-abbrev pub rooms_in : Stores → Rooms
-rooms_in s = record { actions = room s.actions.slots.now; cells = room s.cells.slots.now; nodes = room s.nodes.slots.now }
 
 pub fits_of : (c : Counts) (s : Stores) → Good c s → Fits (rooms_in s) (state (contents c s))
 fits_of c s g =

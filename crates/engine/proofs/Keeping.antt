@@ -6,9 +6,9 @@ use Rattle.meaning.specs.Leaves.{Each, Cell as MCell, LeafFormed}
 use Rattle.meaning.specs.Diagrams.{Diagram as MDiagram, Leaf as MLeaf, Node as MNode, Formed}
 use Rattle.meaning.proofs.Starring.{each_in}
 use Rattle.requests.specs.Requests.{Request, RecordFormed, cell, node}
-use Rattle.requests.specs.Rules.{Joins, Stars, Compiled}
+use Rattle.requests.specs.Rules.{Joins, Sequences, Stars, Compiled}
 use Rattle.requests.specs.Claims.{Construction}
-use Rattle.requests.proofs.Claims.{join_gives, star_answers, compile_answers}
+use Rattle.requests.proofs.Claims.{join_gives, sequence_gives, star_answers, compile_answers}
 use Rattle.stores.specs.Numbers.{Numbered}
 use Rattle.records.specs.declared.kinds.Diagram.{Diagram}
 use Rattle.records.specs.declared.kinds.Diagram.TheVariants.{Leaf, Branch}
@@ -103,6 +103,11 @@ module _ {o : Ops} (L : Laws o) {c : Counts} {s : Stores} (g : Good c s) (h : He
   pub union_asks : (v w : Diagram) → Present (here c s) v → Present (here c s) w → (q : MDiagram) (x : List Request) → Joins o (diagram_of (here c s) v) (diagram_of (here c s) w) q x → Each (RecordFormed o) x
   union_asks v w p p' q x j =
       let G = join_gives o L (diagram_of (here c s) v) (diagram_of (here c s) w) (stands_formed v p) (stands_formed w p') in
+      subst (λ (l : List Request). Each (RecordFormed o) l) (sym (G.nothing_else q x j).1) G.records_formed
+
+  pub sequence_asks : (v w : Diagram) → Present (here c s) v → Present (here c s) w → (q : MDiagram) (x : List Request) → Sequences o (diagram_of (here c s) w) (diagram_of (here c s) v) q x → Each (RecordFormed o) x
+  sequence_asks v w p p' q x j =
+      let G = sequence_gives o L (diagram_of (here c s) v) (diagram_of (here c s) w) (stands_formed v p) (stands_formed w p') in
       subst (λ (l : List Request). Each (RecordFormed o) l) (sym (G.nothing_else q x j).1) G.records_formed
 
   pub star_asks : (w : Diagram) → Present (here c s) w → (q : MDiagram) (x : List Request) → Stars o (diagram_of (here c s) w) q x → Each (RecordFormed o) x

@@ -34,3 +34,5 @@ pub mod SimpleRules
 pub mod Words
 pub mod Steps
 pub mod Unchanged
+pub mod Calls
+pub mod Empty

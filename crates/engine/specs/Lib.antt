@@ -15,3 +15,4 @@ pub mod Compiling
 pub mod Listing
 pub mod Sheets
 pub mod Listed
+pub mod Views

@@ -1,8 +1,9 @@
 // What was constructed before.
-ghost use Rattle.std.specs.Prelude.{◌≡◌, ◌<◌, ◌≤◌, ℕ, None, Some, ◌⊎◌, IfSome};
+ghost use Rattle.std.specs.Prelude.{◌≡◌, ◌<◌, ◌≤◌, ℕ, None, Some, ◌⊎◌, IfSome, MatchResult};
 ghost use Rattle.std.specs.List.{slice_get};
 ghost use Rattle.engine.specs.Memo.{Noted, NothingWritten, Recalled};
 
+use faults::StoreFault;
 use format::{Amount, Setting};
 use records::Diagram;
 
@@ -92,5 +93,19 @@ impl Memo {
         ensures { Noted self.old.entries entry self.new.entries }
     {
         self.entries[place_of(entry.operation, entry.left, entry.right)] = Some(entry);
+    }
+
+    // Passes an answer on, and forgets everything where it is a refusal: no entry outlives its records.
+    pub(crate) fn settle(
+        &mut self,
+        answer: Result<Diagram, StoreFault>,
+    ) -> Result<Diagram, StoreFault>
+        ensures same { result ≡ answer }
+        ensures memo { MatchResult result (λ _. self.new.entries ≡ self.old.entries) (λ _. NothingWritten self.new.entries) }
+    {
+        if answer.is_err() {
+            *self = Memo::empty();
+        }
+        answer
     }
 }
