@@ -23,7 +23,7 @@ use Rattle.engine.specs.declared.memo.Entry.{Entry}
 use Rattle.engine.specs.State.{state, diagram_of, Present}
 use Rattle.engine.specs.Cells.{LeavesFormed}
 use Rattle.engine.specs.Done.{Kept, Done}
-use Rattle.engine.specs.Memo.{Remembers, NothingWritten}
+use Rattle.engine.specs.Memo.{Remembers, NothingWritten, AllRemade}
 use Rattle.engine.specs.Compiling.{CompiledFrom}
 use Rattle.engine.specs.Views.{holdings, SoundEngine}
 use Rattle.engine.proofs.Growing.{held_diagram, word_held, unheld_none, over_of, grows_of, same_rooms}
@@ -99,7 +99,7 @@ module _ {o : Ops} {m : Stores} {c : Counts} {l : List (Option Entry)} (b : Soun
           (record {
             good = good_back b.good its_kept;
             formed = formed_back its_kept b.formed;
-            remembers = (subst (LeavesFormed o) (ap state (sym its_kept.stays)) leaves_formed, λ x w. absurd (n x w));
+            remembers = (subst (LeavesFormed o) (ap state (sym its_kept.stays)) leaves_formed, λ x w. absurd (n x w), subst (AllRemade o) (ap state (sym its_kept.stays)) b.remembers.2);
           })
 
     module _ {e : Counts} {result : Result Diagram StoreFault} {w : Diagram} (j : e ≡ c') (g : Done (R d) d m c' m' result) (q : result ≡ Ok w) where

@@ -54,7 +54,7 @@ module _ (s : Stores) (c : Counts) (z : (c.actions ≡ 0) × (c.cells ≡ 0) × 
   empty_holdings = subst (λ (d : Counts). holdings s d ≡ record { stored = nothing; rooms = rooms_in s }) counts_none (λ i. record { stored = empty_state s i; rooms = rooms_in s })
 
   pub empty_engine : (o : Ops) (l : List (Option Entry)) → NothingWritten l → SoundEngine o s c l
-  empty_engine o l n = subst (λ (d : Counts). SoundEngine o s d l) counts_none (record { good = none_good s; formed = λ q h. absurd (no q h); remembers = (λ n k h. absurd (none_numbered n k h), λ e w. absurd (n e w)) })
+  empty_engine o l n = subst (λ (d : Counts). SoundEngine o s d l) counts_none (record { good = none_good s; formed = λ q h. absurd (no q h); remembers = (λ n k h. absurd (none_numbered n k h), λ e w. absurd (n e w), λ q h. absurd (no q h)) })
     where
       no : (q : Request) → Has (state (contents none s)) q → ⊥
       no q h = nothing_has q (subst (λ (S : Stored). Has S q) (empty_state s) h)
