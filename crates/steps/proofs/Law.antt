@@ -1,18 +1,17 @@
--- What holds of every series. Assumes nothing.
-use Rattle.std.proofs.Common.{◌≡◌, ℕ, ◌≤◌, List, [], ◌∷◌, length, Bool, true, false, Some, Option, sym, refl, ap, ◌∙◌, subst, inl, inr, arith, length-append, true≢false}
+-- What holds of every chain of steps. Assumes nothing.
+use Rattle.std.proofs.Common.{◌≡◌, ℕ, ◌*◌, ◌≤◌, List, [], ◌∷◌, ◌++◌, length, Bool, true, false, Some, Option, sym, refl, ap, ◌∙◌, subst, arith, length-append, append-nil, append_assoc, true≢false}
 use Rattle.std.specs.Prelude.{◌↔◌}
 use Rattle.std.specs.List.{flat_map}
 use Rattle.format.specs.Words.{value_end, word}
-use Rattle.faults.specs.declared.layers.FrameFault.{FrameFault}
-use Rattle.faults.specs.declared.layers.FrameFault.TheVariants.{Length, BadWord, NoRoom}
 use Rattle.frames.specs.Frames.{frame_words}
 use Rattle.format.specs.Policy.{Policy}
 use Rattle.checking.proofs.Determinism.{determined}
 use Rattle.weights.specs.Weights.{Ops, Laws}
 use Rattle.weights.specs.Order.{In}
 use Rattle.tables.specs.Rows.{Row, row_words, LegalRows, table_words}
-use Rattle.tables.specs.Emits.{Answer}
-use Rattle.tables.specs.Forwards.{Refused as FrameRefused, Overfull}
+use Rattle.tables.specs.Emits.{Sent, sent_length, sent_words, Answer}
+use Rattle.tables.specs.Forwards.{Refused as FrameRefused}
+use Rattle.tables.proofs.Answers.{answer_unique}
 use Rattle.listing.specs.Rows.{rows_of}
 use Rattle.listing.specs.Tables.{ShortLists}
 use Rattle.listing.proofs.Legal.{short_lists}
@@ -23,22 +22,23 @@ use Rattle.meaning.specs.Frames.{InRange}
 use Rattle.meaning.specs.Meanings.{Meaning, Means, Alike}
 use Rattle.meaning.proofs.Compiling.{means_alike}
 use Rattle.requests.specs.Requests.{Request}
-use Rattle.faults.specs.declared.layers.BenchFault.{BenchFault}
 use Rattle.counts.specs.declared.memory.Sizes.{Sizes}
 use Rattle.counts.specs.Memory.{AllFit}
-use Rattle.stored.specs.Stored.{Stored, diagram}
+use Rattle.stored.specs.Stored.{Stored, diagram, Grown}
 use Rattle.stored.specs.Grows.{Grows}
-use Rattle.stored.proofs.Numbers.{each_weaker}
+use Rattle.stored.proofs.Numbers.{each_in, each_weaker}
 use Rattle.stored.proofs.Growth.{whole_after, formed_after, diagram_grown}
-use Rattle.steps.specs.States.{State, opened}
+use Rattle.steps.specs.States.{State, TableOf, opened}
 use Rattle.steps.specs.Sound.{Lists, Sound}
-use Rattle.steps.specs.Steps.{Call, Install, Forward, Reply, Word, Installed, Written, Refused, Builds, of_policy, of_union, of_sequence, of_star, Refuses, not_held, full, no_frame, Sends, Step, refused, built, installed, sent, with_stored, with_table}
-use Rattle.steps.specs.Series.{Ledger, walk_of, latest, stands_for, entered, Enters, by_compile, by_union, by_sequence, by_star, by_install, by_forward, by_refused, Event, Series, none, next, Gave, ItsWord, Enough, Emits, Forwards, Right, SeriesLaw}
+use Rattle.steps.specs.Steps.{Call, Install, Forward, Reply, Word, Installed, Written, Refused, Builds, of_policy, of_union, of_sequence, of_star, not_held, full, no_frame, Sends, Step, refused, built, installed, sent, with_stored, with_table}
+use Rattle.steps.specs.Ledgers.{Ledger, no_entries, walk_of, latest, stands_for, entered, Enters, by_compile, by_union, by_sequence, by_star, by_install, by_forward, by_refused, Event, Account, done, next}
+use Rattle.steps.specs.Promises.{ItsWord, Forwards, Keeps, Stays}
+use Rattle.steps.specs.Law.{Law as Lawful}
 use Rattle.steps.proofs.Stores.{diagram_formed, one_word_for_equal}
 use Rattle.steps.proofs.Building.{same_diagram, policy_made, union_made, sequence_made, star_made, built_formed, built_inside}
 use Rattle.steps.proofs.Meanings.{union_alike, sequence_alike, star_alike}
-use Rattle.steps.proofs.Forwarding.{its_rows, no_fault, same_frame, frame_values, answer_emits, not_overfull}
-use Rattle.steps.proofs.Refusals.{exactly}
+use Rattle.steps.proofs.Forwarding.{its_rows, same_frame, frame_values, answer_emits, answer_of, table_emits}
+use Rattle.steps.proofs.Refusals.{exactly, sent_fits, length_sent}
 use Rattle.steps.proofs.Opening.{opened_sound, drop_listed}
 
 -- the word is held, and its diagram's weights are m
@@ -52,13 +52,11 @@ pub record InForce (o : Ops) (s : State) (m : Meaning) : Type 0 where
   pub table : Lists o s.table
   pub weighs : Alike (weigh o table.listed) m
 
-pub record Good (o : Ops) (es : List Event) (s : State) (l : Ledger) : Type 0 where
+-- what holds of a state and its ledger after every call
+pub record Good (o : Ops) (s : State) (l : Ledger) : Type 0 where
   pub sound : Sound o s
   pub entries : Each (λ e. Stands o s.stored e.0 e.1) l.entries
   pub in_force : InForce o s l.in_force
-  pub words : (e : Event) (w : ℕ) (m : Meaning) → In e es → Gave e w m → ItsWord o e s w m
-  pub refusals : (e : Event) → In e es → (f : BenchFault) → (e.reply ≡ Refused f) ↔ Refuses o e.found e.call f
-  pub forwarded : (e : Event) → In e es → Forwards o e.ledger.in_force e.call e.reply
 
 pub alike_trans : (a b c : Meaning) → Alike a b → Alike b c → Alike a c
 alike_trans a b c p q s t x y = p s t x y ∙ q s t x y
@@ -81,6 +79,70 @@ table_legal o d n f h k = (S.legal d f refl).rows
 
 abbrev lists_diagram : (o : Ops) (d : Diagram) (n : ℕ) → Formed o d → length (table_words (rows_of d)) ≤ n → n ≤ value_end → Lists o (table_words (rows_of d))
 lists_diagram o d n f h k = record { listed = d; formed = f; legal = table_legal o d n f h k; words = refl }
+
+-- what is kept
+
+pub keeps_of : (s s' : State) → Grown s.stored s'.stored → Keeps s s'
+keeps_of s s' g = record { records = g; words = diagram_grown s.stored s'.stored g }
+
+abbrev the_same : (s : Stored) → Grown s s
+the_same s =
+    record {
+      new_actions = [];
+      actions_grown = sym (append-nil s.actions);
+      new_leaves = [];
+      leaves_grown = sym (append-nil s.leaves);
+      new_nodes = [];
+      nodes_grown = sym (append-nil s.nodes);
+    }
+
+abbrev both_grown : (s m s' : Stored) → Grown s m → Grown m s' → Grown s s'
+both_grown s m s' g h =
+    record {
+      new_actions = g.new_actions ++ h.new_actions;
+      actions_grown = h.actions_grown ∙ ap (λ (x : _). x ++ h.new_actions) g.actions_grown ∙ append_assoc s.actions g.new_actions h.new_actions;
+      new_leaves = g.new_leaves ++ h.new_leaves;
+      leaves_grown = h.leaves_grown ∙ ap (λ (x : _). x ++ h.new_leaves) g.leaves_grown ∙ append_assoc s.leaves g.new_leaves h.new_leaves;
+      new_nodes = g.new_nodes ++ h.new_nodes;
+      nodes_grown = h.nodes_grown ∙ ap (λ (x : _). x ++ h.new_nodes) g.nodes_grown ∙ append_assoc s.nodes g.new_nodes h.new_nodes;
+    }
+
+pub keeps_same : (s s' : State) → s'.stored ≡ s.stored → Keeps s s'
+keeps_same s s' e = keeps_of s s' (subst (λ (x : Stored). Grown s.stored x) (sym e) (the_same s.stored))
+
+pub keeps_both : (s m s' : State) → Keeps s m → Keeps m s' → Keeps s s'
+keeps_both s m s' p q = keeps_of s s' (both_grown s.stored m.stored s'.stored p.records q.records)
+
+pub step_keeps : (o : Ops) (s : State) (c : Call) (r : Reply) (s' : State) → Step o s c r s' → Keeps s s'
+step_keeps o s c r s' (refused h) = keeps_same s s refl
+step_keeps o s c r s' (built {m = m} b g) = keeps_of s (with_stored s m) g.adds.grown
+step_keeps o s c r s' (installed {d = d} p k) = keeps_same s (with_table s (table_words (rows_of d))) refl
+step_keeps o s c r s' (sent h k) = keeps_same s s refl
+
+pub install_is : (o : Ops) (s : State) (l : Ledger) (x : ℕ) (l' : Ledger) → Enters o s l (Install x) Installed l' → l' ≡ record { entries = l.entries; in_force = stands_for o s l x }
+install_is o s l x l' by_install = refl
+
+own_entry : (w : ℕ) (m : Meaning) (es : List (ℕ × Meaning)) (x : Meaning) → Alike m (latest ((w, m) ∷ es) w x)
+own_entry w m es x = go (decide w w)
+  where
+    go : (d : Dec (w ≡ w)) → Alike m (choice d m (latest es w x))
+    go (yes e) = λ s t a b. refl
+    go (no h) = absurd (h refl)
+
+abbrev word_in : Reply → ℕ
+word_in (Word w) = w
+word_in Installed = 0
+word_in (Written ws) = 0
+word_in (Refused f) = 0
+
+abbrev is_word : Reply → Bool
+is_word (Word w) = true
+is_word Installed = false
+is_word (Written ws) = false
+is_word (Refused f) = false
+
+no_word : (r : Reply) → is_word r ≡ false → (w : ℕ) → r ≡ Word w → ⊥
+no_word r e w p = true≢false (sym (ap is_word p) ∙ e)
 
 module _ {o : Ops} (L : Laws o) where
   pub grown_sound : (s : State) → Sound o s → (c : Call) (r : Diagram) (asks : List Request) (w : ℕ) (m : Stored) → Builds o s.stored c r asks → Grows s.rooms s.stored asks r w m → Sound o (with_stored s m)
@@ -114,8 +176,8 @@ module _ {o : Ops} (L : Laws o) where
     pub is : l' ≡ entered w meaning l
     pub weighs : Alike (weigh o r) meaning
 
-  pub entry : (s : State) (l : Ledger) → Sound o s → Each (λ e. Stands o s.stored e.0 e.1) l.entries → (c : Call) (r : Diagram) (asks : List Request) (w : ℕ) (l' : Ledger) → Builds o s.stored c r asks → Enters o s l c (Word w) l' → Entry r w l l'
-  entry s l h k c r asks w l' (of_policy {ws = ws} {p = p} a b) (by_compile {p = q} {m = m} a' x) =
+  pub entry : (s : State) (l : Ledger) → Good o s l → (c : Call) (r : Diagram) (asks : List Request) (w : ℕ) (l' : Ledger) → Builds o s.stored c r asks → Enters o s l c (Word w) l' → Entry r w l l'
+  entry s l G c r asks w l' (of_policy {ws = ws} {p = p} a b) (by_compile {p = q} {m = m} a' x) =
       record {
         meaning = m;
         is = refl;
@@ -123,203 +185,184 @@ module _ {o : Ops} (L : Laws o) where
             means_alike L p (weigh o r) m (policy_made L p a.legal r asks b).means
             (subst (λ (u : Policy). Means o u m) ((determined ws).one_policy q p a'.legal a.legal a'.words a.words) x);
       }
-  entry s l h k c r asks w l' (of_union {x = u} {y = v} {d = d} {e = e} p q b) (by_union {m = m} x) =
+  entry s l G c r asks w l' (of_union {x = u} {y = v} {d = d} {e = e} p q b) (by_union {m = m} x) =
       record {
         meaning = m;
         is = refl;
         weighs =
-            union_alike L (weigh o d) (weigh o e) (stands_for o s l u) (stands_for o s l v) (weigh o r) m (stands_alike s l k u d p) (stands_alike s l k v e q)
-            (union_made L d e (diagram_formed o s h.stores u d p) (diagram_formed o s h.stores v e q) r asks b).means x;
+            union_alike L (weigh o d) (weigh o e) (stands_for o s l u) (stands_for o s l v) (weigh o r) m (stands_alike s l G.entries u d p) (stands_alike s l G.entries v e q)
+            (union_made L d e (diagram_formed o s G.sound.stores u d p) (diagram_formed o s G.sound.stores v e q) r asks b).means x;
       }
-  entry s l h k c r asks w l' (of_sequence {x = u} {y = v} {d = d} {e = e} p q b) (by_sequence {m = m} x) =
+  entry s l G c r asks w l' (of_sequence {x = u} {y = v} {d = d} {e = e} p q b) (by_sequence {m = m} x) =
       record {
         meaning = m;
         is = refl;
         weighs =
-            sequence_alike L (weigh o d) (weigh o e) (stands_for o s l u) (stands_for o s l v) (weigh o r) m (stands_alike s l k u d p) (stands_alike s l k v e q)
-            (sequence_made L d e (diagram_formed o s h.stores u d p) (diagram_formed o s h.stores v e q) r asks b).means x;
+            sequence_alike L (weigh o d) (weigh o e) (stands_for o s l u) (stands_for o s l v) (weigh o r) m (stands_alike s l G.entries u d p) (stands_alike s l G.entries v e q)
+            (sequence_made L d e (diagram_formed o s G.sound.stores u d p) (diagram_formed o s G.sound.stores v e q) r asks b).means x;
       }
-  entry s l h k c r asks w l' (of_star {x = u} {d = d} p b) (by_star {m = m} x) =
+  entry s l G c r asks w l' (of_star {x = u} {d = d} p b) (by_star {m = m} x) =
       record {
         meaning = m;
         is = refl;
         weighs =
-            star_alike L (weigh o d) (stands_for o s l u) (weigh o r) m (stands_alike s l k u d p)
-            (star_made L d (diagram_formed o s h.stores u d p) r asks b).means x;
+            star_alike L (weigh o d) (stands_for o s l u) (weigh o r) m (stands_alike s l G.entries u d p)
+            (star_made L d (diagram_formed o s G.sound.stores u d p) r asks b).means x;
       }
-
-  -- what is forwarded
-
-  forwards_at : (s : State) (m : Meaning) → InForce o s m → (v : Frame) (n : ℕ) (r : Reply) (s' : State) → InRange v → Enough o m v n → Step o s (Forward (frame_words v) n) r s' → (out : List ℕ) × (r ≡ Written out) × Emits o m v out
-  forwards_at s m F v n r s' i e (refused (not_held u)) = elim u [ ]
-  forwards_at s m F v n r s' i e (refused (full b h)) = elim b [ ]
-  forwards_at s m F v n r s' i e (refused (no_frame {f = f} {rows = rows} h k)) = absurd (go f (subst (λ (u : List Row). FrameRefused o u (frame_words v) n f) (its_rows L s.table F.table rows h) k))
-    where
-      go : (g : FrameFault) → FrameRefused o (rows_of F.table.listed) (frame_words v) n g → ⊥
-      go Length h = no_fault Length (frame_words v) h v (frame_values v i) refl
-      go (BadWord j) h = no_fault (BadWord j) (frame_words v) h v (frame_values v i) refl
-      go NoRoom (t, a, b, O) =
-          not_overfull L F.table.listed F.table.formed m F.weighs v i n e (subst (λ (u : Frame). Overfull o (rows_of F.table.listed) u n) (sym (same_frame v t b)) O)
-  forwards_at s m F v n r s' i e (built b g) = elim b [ ]
-  forwards_at s m F v n r s' i e (sent {out = out} {rows = rows} h k) = (out, refl, subst (Emits o m v) (sym S.written) (answer_emits L F.table.listed F.table.formed m F.weighs v i S.answer (subst (λ (u : Frame). Answer o (rows_of F.table.listed) u S.answer) (sym (same_frame v S.frame S.its_words)) S.right)))
-    where
-      S : Sends o (rows_of F.table.listed) (frame_words v) n out
-      S = subst (λ (u : List Row). Sends o u (frame_words v) n out) (its_rows L s.table F.table rows h) k
-
-  forwards : (s : State) (m : Meaning) → InForce o s m → (c : Call) (r : Reply) (s' : State) → Step o s c r s' → Forwards o m c r
-  forwards s m F c r s' h v n q i e = forwards_at s m F v n r s' i e (subst (λ (x : Call). Step o s x r s') q h)
 
   -- the invariant goes on
 
   stays : (s s' : Stored) → ((v : ℕ) (d : Diagram) → diagram s v ≡ Some d → diagram s' v ≡ Some d) → (w : ℕ) (m : Meaning) → Stands o s w m → Stands o s' w m
   stays s s' f w m h = record { of = h.of; held = f w h.of h.held; weighs = h.weighs }
 
-  word_stays : (e : Event) (s s' : State) → ((v : ℕ) (d : Diagram) → diagram s.stored v ≡ Some d → diagram s'.stored v ≡ Some d) → (w : ℕ) (m : Meaning) → ItsWord o e s w m → ItsWord o e s' w m
-  word_stays e s s' f w m h = record { given = h.given; asks = h.asks; for_call = h.for_call; its_word = f w h.given h.its_word; weighs = h.weighs }
-
-  both : {P : Event → Type 0} (e : Event) (es : List Event) → P e → ((f : Event) → In f es → P f) → (f : Event) → In f (e ∷ es) → P f
-  both {P} e es p h f (inl q) = subst P (sym q) p
-  both e es p h f (inr i) = h f i
-
-  -- a call that entered nothing into the stores
-  plain :
-      (es : List Event) (s s' : State) (l l' : Ledger) (c : Call) (r : Reply) → Good o es s l → Step o s c r s' →
-      s'.stored ≡ s.stored → l'.entries ≡ l.entries → Sound o s' → InForce o s' l'.in_force → ((w : ℕ) → r ≡ Word w → ⊥) →
-      Good o (record { call = c; reply = r; found = s; ledger = l; ledger_after = l' } ∷ es) s' l'
-  plain es s s' l l' c r G h e e' sound force no_word =
-      record {
-        sound = sound;
-        entries = subst (λ (x : List (ℕ × Meaning)). Each (λ a. Stands o s'.stored a.0 a.1) x) (sym e') (each_weaker _ _ l.entries (λ a k. stays s.stored s'.stored still a.0 a.1 k) G.entries);
-        in_force = force;
-        words = λ f w m i g. word f i w m g;
-        refusals = both ev es (λ f. exactly L s G.sound.table c r s' h f) G.refusals;
-        forwarded = both ev es (forwards s l.in_force G.in_force c r s' h) G.forwarded;
-      }
+  pub good_next : (s s' : State) (l l' : Ledger) (c : Call) (r : Reply) → Good o s l → Step o s c r s' → Enters o s l c r l' → Good o s' l'
+  good_next s s' l l' c r G (refused h) by_refused = G
+  good_next s s' l l' c r G (built {r = d} {asks = a} {w = w} {m = m} b g) n =
+      subst (Good o (with_stored s m)) (sym E.is)
+      (record {
+        sound = grown_sound s G.sound c d a w m b g;
+        entries = (record { of = d; held = g.its_word; weighs = E.weighs }, each_weaker _ _ l.entries (λ e k. stays s.stored m (diagram_grown s.stored m g.adds.grown) e.0 e.1 k) G.entries);
+        in_force = record { table = G.in_force.table; weighs = G.in_force.weighs };
+      })
     where
-      ev : Event
-      ev = record { call = c; reply = r; found = s; ledger = l; ledger_after = l' }
-
-      still : (v : ℕ) (d : Diagram) → diagram s.stored v ≡ Some d → diagram s'.stored v ≡ Some d
-      still v d = subst (λ (x : Stored). diagram s.stored v ≡ Some d → diagram x v ≡ Some d) (sym e) (λ k. k)
-
-      word : (f : Event) → In f (ev ∷ es) → (w : ℕ) (m : Meaning) → Gave f w m → ItsWord o f s' w m
-      word = both {P = λ f. (w : ℕ) (m : Meaning) → Gave f w m → ItsWord o f s' w m} ev es (λ w m g. absurd (no_word w g.word)) (λ f i w m g. word_stays f s s' still w m (G.words f w m i g))
-
-pub install_is : (o : Ops) (s : State) (l : Ledger) (x : ℕ) (l' : Ledger) → Enters o s l (Install x) Installed l' → l' ≡ record { entries = l.entries; in_force = stands_for o s l x }
-install_is o s l x l' by_install = refl
-
-abbrev word_in : Reply → ℕ
-word_in (Word w) = w
-word_in Installed = 0
-word_in (Written ws) = 0
-word_in (Refused f) = 0
-
-abbrev is_word : Reply → Bool
-is_word (Word w) = true
-is_word Installed = false
-is_word (Written ws) = false
-is_word (Refused f) = false
-
-no_such_word : (r : Reply) → is_word r ≡ false → (w : ℕ) → r ≡ Word w → ⊥
-no_such_word r e w p = true≢false (sym (ap is_word p) ∙ e)
-
-abbrev first_meaning : List (ℕ × Meaning) → Meaning
-first_meaning [] = λ s t. 0
-first_meaning (e ∷ es) = e.1
-
-module _ {o : Ops} (L : Laws o) where
-  -- a call that built a diagram
-  grown :
-      (es : List Event) (s : State) (l l' : Ledger) (c : Call) (r : Diagram) (asks : List Request) (w : ℕ) (m : Stored) → Good o es s l →
-      Builds o s.stored c r asks → Grows s.rooms s.stored asks r w m → Entry L r w l l' →
-      Good o (record { call = c; reply = Word w; found = s; ledger = l; ledger_after = l' } ∷ es) (with_stored s m) l'
-  grown es s l l' c r asks w m G b g E =
-      record {
-        sound = grown_sound L s G.sound c r asks w m b g;
-        entries =
-            subst (λ (x : Ledger). Each (λ a. Stands o m a.0 a.1) x.entries) (sym E.is)
-            (record { of = r; held = g.its_word; weighs = E.weighs }, each_weaker _ _ l.entries (λ a k. stays L s.stored m (diagram_grown s.stored m g.adds.grown) a.0 a.1 k) G.entries);
-        in_force = subst (λ (x : Ledger). InForce o (with_stored s m) x.in_force) (sym E.is) (record { table = G.in_force.table; weighs = G.in_force.weighs });
-        words = λ f v n i k. word f i v n k;
-        refusals = both L ev es (λ f. exactly L s G.sound.table c (Word w) (with_stored s m) step f) G.refusals;
-        forwarded = both L ev es (forwards L s l.in_force G.in_force c (Word w) (with_stored s m) step) G.forwarded;
-      }
-    where
-      ev : Event
-      ev = record { call = c; reply = Word w; found = s; ledger = l; ledger_after = l' }
-
-      step : Step o s c (Word w) (with_stored s m)
-      step = built b g
-
-      its_own : (v : ℕ) (n : Meaning) → Gave ev v n → ItsWord o ev (with_stored s m) v n
-      its_own v n k =
-          record {
-            given = r;
-            asks = asks;
-            for_call = b;
-            its_word = subst (λ (x : ℕ). diagram m x ≡ Some r) (ap word_in k.word) g.its_word;
-            weighs = subst (λ (x : Meaning). Alike (weigh o r) x) (ap (λ (x : Ledger). first_meaning x.entries) (sym E.is ∙ k.entry)) E.weighs;
-          }
-
-      word : (f : Event) → In f (ev ∷ es) → (v : ℕ) (n : Meaning) → Gave f v n → ItsWord o f (with_stored s m) v n
-      word = both L {P = λ f. (v : ℕ) (n : Meaning) → Gave f v n → ItsWord o f (with_stored s m) v n} ev es its_own (λ f i v n k. word_stays L f s (with_stored s m) (diagram_grown s.stored m g.adds.grown) v n (G.words f v n i k))
-
-  pub good_next :
-      (es : List Event) (s s' : State) (l l' : Ledger) (c : Call) (r : Reply) → Good o es s l → Step o s c r s' → Enters o s l c r l' →
-      Good o (record { call = c; reply = r; found = s; ledger = l; ledger_after = l' } ∷ es) s' l'
-  good_next es s s' l l' c r G (refused {f = f} h) by_refused = plain L es s s l l c (Refused f) G (refused h) refl refl G.sound G.in_force (no_such_word (Refused f) refl)
-  good_next es s s' l l' c r G (built {r = d} {asks = a} {w = w} {m = m} b g) n = grown es s l l' c d a w m G b g (entry L s l G.sound G.entries c d a w l' b n)
-  good_next es s s' l l' c r G (installed {x = x} {d = d} p k) n =
-      subst (λ (y : Ledger). Good o (record { call = Install x; reply = Installed; found = s; ledger = l; ledger_after = y } ∷ es) (with_table s (table_words (rows_of d))) y) (sym (install_is o s l x l' n))
-      (plain L es s (with_table s (table_words (rows_of d))) l (record { entries = l.entries; in_force = stands_for o s l x }) (Install x) Installed G (installed p k) refl refl
-      (record { stores = record { whole = G.sound.stores.whole; formed = G.sound.stores.formed; few = G.sound.stores.few }; table = listed; countable = G.sound.countable })
-      (record { table = listed; weighs = stands_alike L s l G.entries x d p })
-      (no_such_word Installed refl))
+      E : Entry d w l l'
+      E = entry s l G c d a w l' b n
+  good_next s s' l l' c r G (installed {x = x} {d = d} p k) n =
+      subst (Good o (with_table s (table_words (rows_of d)))) (sym (install_is o s l x l' n))
+      (record {
+        sound = record { stores = record { whole = G.sound.stores.whole; formed = G.sound.stores.formed; few = G.sound.stores.few }; table = listed; countable = G.sound.countable };
+        entries = G.entries;
+        in_force = record { table = listed; weighs = stands_alike s l G.entries x d p };
+      })
     where
       listed : Lists o (table_words (rows_of d))
       listed = lists_diagram o d s.table_room (diagram_formed o s G.sound.stores x d p) k G.sound.countable
-  good_next es s s' l l' c r G (sent {ws = ws} {n = n} {out = out} h k) by_forward = plain L es s s l l (Forward ws n) (Written out) G (sent h k) refl refl G.sound G.in_force (no_such_word (Written out) refl)
+  good_next s s' l l' c r G (sent h k) by_forward = G
 
-  pub good : (z : Sizes) → AllFit z → (es : List Event) (s : State) (l : Ledger) → Series o (opened z) es s l → Good o es s l
-  good z h es s l none =
-      record {
-        sound = opened_sound o z h;
-        entries = tt;
-        in_force = record { table = drop_listed o; weighs = λ x y p q. refl };
-        words = λ e w m i g. absurd i;
-        refusals = λ e i f. absurd i;
-        forwarded = λ e i. absurd i;
-      }
-  good z h es s l (next {es = es'} {s = s'} {s' = s''} {l = l'} {l' = l''} {c = x} {r = r} S k e) = good_next es' s' s'' l' l'' x r (good z h es' s' l' S) k e
+  -- what a call answers
 
-  pub right : (es : List Event) (s : State) (l : Ledger) → Good o es s l → Right o es s l
-  right es s l G =
+  pub its_word :
+      (s m last : State) (l k : Ledger) (c : Call) (r : Reply) → Good o s l → Step o s c r m → Enters o s l c r k → Keeps m last → (w : ℕ) → r ≡ Word w →
+      ItsWord o (record { call = c; reply = r; found = s; left = m; before = l; after = k }) w last
+  its_word s m last l k c r G (refused {f = f} h) n q w e = absurd (no_word (Refused f) refl w e)
+  its_word s m last l k c r G (built {r = d} {asks = a} {w = v} {m = t} b g) n q w e =
+      subst (λ (x : ℕ). ItsWord o (record { call = c; reply = Word v; found = s; left = with_stored s t; before = l; after = k }) x last) (ap word_in e)
+      (record { given = d; asks = a; by_the_rules = b; its_word = q.words v d g.its_word; weighs = weighs })
+    where
+      E : Entry d v l k
+      E = entry s l G c d a v k b n
+
+      weighs : Alike (weigh o d) (stands_for o (with_stored s t) k v)
+      weighs =
+          subst (λ (x : Ledger). Alike (weigh o d) (stands_for o (with_stored s t) x v)) (sym E.is)
+          (alike_trans (weigh o d) E.meaning (stands_for o (with_stored s t) (entered v E.meaning l) v) E.weighs (own_entry v E.meaning l.entries (walk_of o (diagram t v))))
+  its_word s m last l k c r G (installed p j) n q w e = absurd (no_word Installed refl w e)
+  its_word s m last l k c r G (sent {out = out} h j) n q w e = absurd (no_word (Written out) refl w e)
+
+  -- what is forwarded
+
+  pub forwards : (s : State) (m : Meaning) → InForce o s m → (v : Frame) → InRange v → Forwards o s m v
+  forwards s m F v i =
       record {
-        refusals = G.refusals;
-        words = G.words;
-        equal_exactly = equal;
-        forwarded = G.forwarded;
-        next_forwarded = λ c r s' h. forwards L s l.in_force G.in_force c r s' h;
+        emitted = A.0;
+        emits = answer_emits L F.table.listed F.table.formed m F.weighs v i A.0 A.1;
+        step = λ n h. sent table (sends n h);
+        only = λ n r s' h k. only n h (frame_words v) refl r s' k;
       }
     where
-      equal : (e f : Event) (v w : ℕ) (m n : Meaning) → In e es → In f es → Gave e v m → Gave f w n → (v ≡ w) ↔ Alike m n
-      equal e f v w m n i j g k = (to, from)
+      A : (xs : List Sent) × Answer o (rows_of F.table.listed) v xs
+      A = answer_of L F.table.listed F.table.formed v i
+
+      table : TableOf o s.table (rows_of F.table.listed)
+      table = record { legal = F.table.legal; words = F.table.words }
+
+      sends : (n : ℕ) → sent_length * length A.0 ≤ n → Sends o (rows_of F.table.listed) (frame_words v) n (flat_map sent_words A.0)
+      sends n h = record { frame = v; is_frame = frame_values v i; its_words = refl; answer = A.0; right = A.1; written = refl; fit = omega (arith, h, long) }
         where
-          E : ItsWord o e s v m
-          E = G.words e v m i g
+          long : length (flat_map sent_words A.0) ≡ sent_length * length A.0
+          long = length_sent A.0 (λ x j. table_emits L F.table.listed F.table.formed v (frame_values v i) x.frame (λ z. (A.1.sound x j).1 (sym (A.1.sound x j).0 ∙ z)))
 
-          F : ItsWord o f s w n
-          F = G.words f w n j k
+      only : (n : ℕ) → sent_length * length A.0 ≤ n → (ws : List ℕ) → ws ≡ frame_words v → (r : Reply) (s' : State) → Step o s (Forward ws n) r s' → (r ≡ Written (flat_map sent_words A.0)) × (s' ≡ s)
+      only n h ws e r s' (refused (not_held u)) = elim u [ ]
+      only n h ws e r s' (refused (full b k)) = elim b [ ]
+      only n h ws e r s' (refused (no_frame {f = f} {rows = rows} t k)) =
+          absurd (sent_fits L F.table.listed F.table.formed (frame_words v) n (flat_map sent_words A.0) f (sends n h)
+          (subst (λ (x : List ℕ). FrameRefused o (rows_of F.table.listed) x n f) e (subst (λ (u : List Row). FrameRefused o u ws n f) (its_rows L s.table F.table rows t) k)))
+      only n h ws e r s' (built b g) = elim b [ ]
+      only n h ws e r s' (sent {out = out} {rows = rows} t k) = (ap {B = Reply} Written (S.written ∙ ap (flat_map sent_words) same), refl)
+        where
+          S : Sends o (rows_of F.table.listed) ws n out
+          S = subst (λ (u : List Row). Sends o u ws n out) (its_rows L s.table F.table rows t) k
 
-          to : v ≡ w → Alike m n
+          same : S.answer ≡ A.0
+          same = answer_unique o (rows_of F.table.listed) v S.answer A.0 (subst (λ (u : Frame). Answer o (rows_of F.table.listed) u S.answer) (sym (same_frame v S.frame (sym e ∙ S.its_words))) S.right) A.1
+
+  -- chains
+
+  -- what is known of a call that was made, in the state in which the series ends
+  pub record Known (last : State) (e : Event) : Type 0 where
+    pub good : Good o e.found e.before
+    pub step : Step o e.found e.call e.reply e.left
+    pub word : (w : ℕ) → e.reply ≡ Word w → ItsWord o e w last
+
+  pub record Ends (es : List Event) (s last : State) (ledger : Ledger) : Type 0 where
+    pub known : Each (Known last) es
+    pub good : Good o last ledger
+    pub keeps : Keeps s last
+    -- all that was found since keeps what was held
+    pub found : Each (λ e. Keeps s e.found) es
+    pub stays : Stays es last
+
+  one_more :
+      (s m last : State) (l k ledger : Ledger) (c : Call) (r : Reply) (es : List Event) → Good o s l → Step o s c r m → Enters o s l c r k →
+      Ends es m last ledger → Ends (record { call = c; reply = r; found = s; left = m; before = l; after = k } ∷ es) s last ledger
+  one_more s m last l k ledger c r es G h n E =
+      record {
+        known = (record { good = G; step = h; word = its_word s m last l k c r G h n E.keeps }, E.known);
+        good = E.good;
+        keeps = keeps;
+        found = (keeps_same s s refl, later);
+        stays = (later, keeps, E.stays);
+      }
+    where
+      keeps : Keeps s last
+      keeps = keeps_both s m last (step_keeps o s c r m h) E.keeps
+
+      later : Each (λ e. Keeps s e.found) es
+      later = each_weaker (λ e. Keeps m e.found) (λ e. Keeps s e.found) es (λ e. keeps_both s m e.found (step_keeps o s c r m h)) E.found
+
+  pub ends : (s last : State) (l ledger : Ledger) (cs : List Call) (rs : List Reply) (es : List Event) → Good o s l → Account o s l cs rs es last ledger → Ends es s last ledger
+  ends s last l ledger cs rs es G done = record { known = tt; good = G; keeps = keeps_same s s refl; found = tt; stays = tt }
+  ends s last l ledger cs rs es G (next {m = m} {k = k} {c = c} {cs = cs'} {r = r} {rs = rs'} {es = es'} h n a) =
+      one_more s m last l k ledger c r es' G h n (ends m last k ledger cs' rs' es' (good_next s m l k c r G h n) a)
+
+  pub lawful : (es : List Event) (s last : State) (ledger : Ledger) → Ends es s last ledger → Lawful o es last ledger
+  lawful es s last ledger E =
+      record {
+        refusals = λ e f i. let k = known e i in exactly L e.found k.good.sound.table e.call e.reply e.left k.step f;
+        words = λ e w i p. (known e i).word w p;
+        equal_exactly = λ e f v w i j p q. equal e f v w ((known e i).word v p) ((known f j).word w q);
+        forwards = λ e v i. forwards e.found e.before.in_force (known e i).good.in_force v;
+        forwards_next = forwards last ledger.in_force E.good.in_force;
+        stays = E.stays;
+      }
+    where
+      known : (e : Event) → In e es → Known last e
+      known = each_in (Known last) es E.known
+
+      equal : (e f : Event) (v w : ℕ) → ItsWord o e v last → ItsWord o f w last → (v ≡ w) ↔ Alike (stands_for o e.left e.after v) (stands_for o f.left f.after w)
+      equal e f v w E' F = (to, from)
+        where
+          to : v ≡ w → Alike (stands_for o e.left e.after v) (stands_for o f.left f.after w)
           to p =
-              alike_trans m (weigh o E.given) n (alike_sym (weigh o E.given) m E.weighs)
-              (subst (λ (d : Diagram). Alike (weigh o d) n) (same_diagram s.stored w F.given E.given F.its_word (subst (λ (x : ℕ). diagram s.stored x ≡ Some E.given) p E.its_word)) F.weighs)
+              alike_trans (stands_for o e.left e.after v) (weigh o E'.given) (stands_for o f.left f.after w) (alike_sym (weigh o E'.given) (stands_for o e.left e.after v) E'.weighs)
+              (subst (λ (d : Diagram). Alike (weigh o d) (stands_for o f.left f.after w)) (same_diagram last.stored w F.given E'.given F.its_word (subst (λ (x : ℕ). diagram last.stored x ≡ Some E'.given) p E'.its_word)) F.weighs)
 
-          from : Alike m n → v ≡ w
-          from a =
-              one_word_for_equal L s G.sound.stores v w E.given F.given E.its_word F.its_word
-              (alike_trans (weigh o E.given) m (weigh o F.given) E.weighs (alike_trans m n (weigh o F.given) a (alike_sym (weigh o F.given) n F.weighs)))
+          from : Alike (stands_for o e.left e.after v) (stands_for o f.left f.after w) → v ≡ w
+          from h =
+              one_word_for_equal L last E.good.sound.stores v w E'.given F.given E'.its_word F.its_word
+              (alike_trans (weigh o E'.given) (stands_for o e.left e.after v) (weigh o F.given) E'.weighs
+              (alike_trans (stands_for o e.left e.after v) (stands_for o f.left f.after w) (weigh o F.given) h (alike_sym (weigh o F.given) (stands_for o f.left f.after w) F.weighs)))
 
-pub every_series : SeriesLaw
-every_series o L z h es s l S = right L es s l (good L z h es s l S)
+  pub opened_good : (z : Sizes) → AllFit z → Good o (opened z) (no_entries o)
+  opened_good z h = record { sound = opened_sound o z h; entries = tt; in_force = record { table = drop_listed o; weighs = λ x y p q. refl } }

@@ -24,19 +24,25 @@ use Rattle.steps.specs.States.{State}
 use Rattle.steps.specs.Sound.{Lists}
 use Rattle.steps.specs.Steps.{Call, Reply, Word, Installed, Written, Refused, install_operand, Refuses, not_held, full, table_full, no_frame, Sends, Step, refused, built, installed, sent}
 use Rattle.steps.proofs.Building.{same_diagram, some_not_none, built_once, built_held, unheld_once}
-use Rattle.steps.proofs.Forwarding.{its_rows, no_fault, same_frame, in_to, table_emits}
+use Rattle.steps.proofs.Forwarding.{its_rows, no_fault, same_frame, table_emits}
 
 never_before : (s : List ℕ) → before s s ≡ true → ⊥
 never_before s e = true≢false (sym e ∙ asymmetric s s e)
 
+-- the two words for a list's elements are one
+in_to : {X : Type 0} (x : X) (xs : List X) → InSent x xs → In x xs
+in_to x [] i = i
+in_to x (y ∷ ys) (inl e) = inl e
+in_to x (y ∷ ys) (inr i) = inr (in_to x ys i)
+
+in_from : {X : Type 0} (x : X) (xs : List X) → In x xs → InSent x xs
+in_from x [] i = i
+in_from x (y ∷ ys) (inl e) = inl e
+in_from x (y ∷ ys) (inr i) = inr (in_from x ys i)
+
 ascending_differ : (ts : List (List ℕ)) → Ascending ts → Apart ts
 ascending_differ [] a = tt
-ascending_differ (t ∷ ts) a = (λ i. never_before t (a.0 t (from t ts i)), ascending_differ ts a.1)
-  where
-    from : (x : List ℕ) (xs : List (List ℕ)) → In x xs → InSent x xs
-    from x [] i = i
-    from x (y ∷ ys) (inl e) = inl e
-    from x (y ∷ ys) (inr i) = inr (from x ys i)
+ascending_differ (t ∷ ts) a = (λ i. never_before t (a.0 t (in_from t ts i)), ascending_differ ts a.1)
 
 -- frames
 
@@ -77,7 +83,7 @@ fault_once {o} L s t c f g (no_frame {ws = ws} {n = n} {f = x} {rows = rows} h k
 
 -- not both
 
-length_sent : (xs : List Sent) → ((x : Sent) → In x xs → length x.frame ≡ 8) → length (flat_map sent_words xs) ≡ sent_length * length xs
+pub length_sent : (xs : List Sent) → ((x : Sent) → InSent x xs → length x.frame ≡ 8) → length (flat_map sent_words xs) ≡ sent_length * length xs
 length_sent [] h = refl
 length_sent (x ∷ xs) h =
     let a = length-append (sent_words x) (flat_map sent_words xs) in
@@ -97,7 +103,7 @@ length_frames (x ∷ xs) = ap suc (length_frames xs)
 
 module _ {o : Ops} (L : Laws o) where
   -- what is sent fits, so it is not overfull
-  sent_fits : (d : Diagram) → Formed o d → (ws : List ℕ) (n : ℕ) (out : List ℕ) (f : FrameFault) → Sends o (rows_of d) ws n out → FrameRefused o (rows_of d) ws n f → ⊥
+  pub sent_fits : (d : Diagram) → Formed o d → (ws : List ℕ) (n : ℕ) (out : List ℕ) (f : FrameFault) → Sends o (rows_of d) ws n out → FrameRefused o (rows_of d) ws n f → ⊥
   sent_fits d fd ws n out Length h k = no_fault Length ws k h.frame h.is_frame h.its_words
   sent_fits d fd ws n out (BadWord i) h k = no_fault (BadWord i) ws k h.frame h.is_frame h.its_words
   sent_fits d fd ws n out NoRoom h (s, v, e, O) = crowded
@@ -105,21 +111,11 @@ module _ {o : Ops} (L : Laws o) where
       same : s ≡ h.frame
       same = same_frame s h.frame (sym e ∙ h.its_words)
 
-      long : (x : Sent) → In x h.answer → length x.frame ≡ 8
-      long x i = table_emits L d fd h.frame h.is_frame x.frame (λ z. (h.right.sound x (from x h.answer i)).1 (sym (h.right.sound x (from x h.answer i)).0 ∙ z))
-        where
-          from : (y : Sent) (ys : List Sent) → In y ys → InSent y ys
-          from y [] j = j
-          from y (z ∷ zs) (inl q) = inl q
-          from y (z ∷ zs) (inr j) = inr (from y zs j)
+      long : (x : Sent) → InSent x h.answer → length x.frame ≡ 8
+      long x i = table_emits L d fd h.frame h.is_frame x.frame (λ z. (h.right.sound x i).1 (sym (h.right.sound x i).0 ∙ z))
 
       inside : (t : List ℕ) → In t O.frames → In t (map (λ y. y.frame) h.answer)
-      inside t i = in_frames _ h.answer (in_to _ h.answer (h.right.complete t (subst (λ (z : List ℕ). emits o (rows_of d) z t ≢ o.zero) same (O.emitted t (from t O.frames i)))))
-        where
-          from : (x : List ℕ) (xs : List (List ℕ)) → In x xs → InSent x xs
-          from x [] j = j
-          from x (y ∷ ys) (inl q) = inl q
-          from x (y ∷ ys) (inr j) = inr (from x ys j)
+      inside t i = in_frames _ h.answer (in_to _ h.answer (h.right.complete t (subst (λ (z : List ℕ). emits o (rows_of d) z t ≢ o.zero) same (O.emitted t (in_from t O.frames i)))))
 
       crowded : ⊥
       crowded =
@@ -132,7 +128,7 @@ module _ {o : Ops} (L : Laws o) where
           omega (arith, a, b, c, l, m, q)
 
   -- a call that is accepted meets no condition for a refusal
-  accepted : (s : State) → Lists o s.table → (c : Call) (r : Reply) (s' : State) (f : BenchFault) → Step o s c r s' → Refuses o s c f → (g : BenchFault) × (r ≡ Refused g)
+  pub accepted : (s : State) → Lists o s.table → (c : Call) (r : Reply) (s' : State) (f : BenchFault) → Step o s c r s' → Refuses o s c f → (g : BenchFault) × (r ≡ Refused g)
   accepted s t c r s' f (refused {f = g} h) k = (g, refl)
   accepted s t c r s' f (built {r = d} {asks = a} b g) (not_held {place = i} u) = absurd (built_held o s.stored c d a i b u)
   accepted s t c r s' f (built {r = d} {asks = a} {w = w} {m = m} b g) (full {r = d'} {asks = a'} b' h) =
