@@ -80,10 +80,10 @@ in_mapped a [] i = absurd i
 in_mapped a (x ∷ xs) (inl e) = inl (ap action e)
 in_mapped a (x ∷ xs) (inr i) = inr (in_mapped a xs i)
 
-in_flat : {X : Type 0} (f : X → List Request) (q : Request) (x : X) → In q (f x) → (xs : List X) → In x xs → In q (flat_map f xs)
-in_flat f q x h [] i = absurd i
-in_flat {X} f q x h (y ∷ xs) (inl e) = in_left q (f y) (flat_map f xs) (subst (λ (u : X). In q (f u)) e h)
-in_flat f q x h (y ∷ xs) (inr i) = in_right q (f y) (flat_map f xs) (in_flat f q x h xs i)
+pub in_flat : {X Y : Type 0} (f : X → List Y) (y : Y) (x : X) → In y (f x) → (xs : List X) → In x xs → In y (flat_map f xs)
+in_flat f y x h [] i = absurd i
+in_flat {X} f y x h (z ∷ xs) (inl e) = in_left y (f z) (flat_map f xs) (subst (λ (u : X). In y (f u)) e h)
+in_flat f y x h (z ∷ xs) (inr i) = in_right y (f z) (flat_map f xs) (in_flat f y x h xs i)
 
 in_own_part : (s : Stored) (q : Request) → Has s q → In q (part s (kind_of q))
 in_own_part s (action a) (n, e) = in_mapped a s.actions (numbered_in s.actions n a e)
