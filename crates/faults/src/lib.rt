@@ -14,6 +14,7 @@ pub use layers::{
     TokenFault,
 };
 use numerals::Decimal;
+use pages::{Page, Print};
 pub use refusals::zeros_if_refused;
 use std::error::Error;
 use std::fmt;
@@ -53,6 +54,21 @@ impl fmt::Display for Shown {
 
 // An error to print is what is shown of a fault. Seven faults with a `Display` each would be no plainer: all would print this.
 impl Error for Shown {}
+
+// The same line on a page.
+impl Print for Shown {
+    ghost output = { refused_line };
+
+    fn print(&self, page: &mut Page<'_>) {
+        page.push_str("refused ");
+        Decimal(self.number as u64).print(page);
+        page.push_str(" layer ");
+        Decimal(self.layer as u64).print(page);
+        page.push_str(" place ");
+        Decimal(self.place as u64).print(page);
+        page.push(b'\n')
+    }
+}
 
 impl From<TokenFault> for Shown {
     ghost from_gives = { λ f s. s ≡ token_shown f };

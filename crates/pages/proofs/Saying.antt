@@ -33,8 +33,9 @@ stands_both n k x y m small e = elim (cases_lt most (n + length x)) [
 ]
 
 -- one text and then another
-pub then : {a b c : Page} {x y : List ℕ} → Says a x b → Says b y c → Says a (x ++ y) c
-then {a} {b} {c} {x} {y} s t = record {
+infixr 10 ◌>>◌
+pub ◌>>◌ : {a b c : Page} {x y : List ℕ} → Says a x b → Says b y c → Says a (x ++ y) c
+◌>>◌ {a} {b} {c} {x} {y} s t = record {
   count = omega (arith, s.count, t.count, length-append x y);
   memory =
       stands t

@@ -1,7 +1,7 @@
 use Rattle.std.proofs.Common.{[], take, sym, ap, get_or, ◌∙◌}
 use Rattle.std.specs.List.{flat_map}
 use Rattle.std.proofs.lemmas.List.{flat_map_more, take_more, take_all}
-use Rattle.pages.proofs.Saying.{then, says_of_eq, nothing}
+use Rattle.pages.proofs.Saying.{◌>>◌, says_of_eq, nothing}
 use Rattle.pages.proofs.each.print_each.Goals as goal
 
 pub loop-word-init : goal.loop-word-init
@@ -14,7 +14,7 @@ loop-word-preserved g c = λ text says.
     in let before = c.loop-word.invariant text says
     in let last = rw (says _ _ c.from.ensures) at c.print.ensures
     in let more = flat_map_more text [] (take i words) (get_or words i 0) ∙ ap (flat_map text) (sym (take_more words i 0 c.loop-word-test.true))
-    in says_of_eq more (then before last)
+    in says_of_eq more (before >> last)
 
 pub returns : goal.returns
 returns g c = λ text says.

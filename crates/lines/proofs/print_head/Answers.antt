@@ -1,0 +1,12 @@
+use Rattle.std.proofs.Common.{decimal, ap}
+use Rattle.pages.proofs.Saying.{◌>>◌, says_of_eq}
+use Rattle.lines.proofs.print_head.Goals as goal
+
+pub returns : goal.returns
+returns c =
+    let (kind, field, value) = c.from-word.ensures
+    in c.push_str.ensures
+    >> says_of_eq (ap decimal field) c.print.ensures
+    >> c.push_str-2.ensures
+    >> says_of_eq (ap decimal value) c.print-2.ensures
+    >> c.push_str-3.ensures
