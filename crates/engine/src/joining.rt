@@ -1,12 +1,12 @@
 // What the union of two diagrams is made of.
-ghost use Rattle.std.specs.Prelude.{◌≡◌, ◌<◌, ◌≤◌, None, Some, ◌≢◌, MatchOption, MatchResult, OnOk};
+ghost use Rattle.std.specs.Prelude.{◌≡◌, ◌<◌, ◌≤◌, None, Some, ◌≢◌, Decides, MatchOption, MatchResult, OnOk};
 ghost use Rattle.meaning.specs.Constructions.{root, first_root, off};
 ghost use Rattle.diagrams.specs.Tests.{contents};
 ghost use Rattle.requests.specs.Rules.{Joins};
 ghost use Rattle.engine.specs.State.{state, Present, Names, diagram_of};
 ghost use Rattle.engine.specs.Done.{Done, Good, Kept};
 ghost use Rattle.engine.specs.Cells.{LeavesFormed, number_of};
-ghost use Rattle.engine.specs.Leaves.{tested, Split};
+ghost use Rattle.engine.specs.Leaves.{IsDrop, tested, Split};
 
 use super::enter::node;
 use super::merging::{Strand, View, merge};
@@ -16,6 +16,16 @@ use faults::StoreFault;
 use format::{Amount, Setting};
 use records::{Diagram, Node};
 use weights::WeightKind;
+
+// Whether the word is that of drop.
+pub(crate) fn is_drop(diagram: Diagram) -> bool
+    ensures { Decides result (IsDrop diagram) }
+{
+    match diagram {
+        Diagram::Leaf(first) => first.number == 0,
+        Diagram::Branch(_) => false,
+    }
+}
 
 // The root test, if there is one.
 pub(crate) fn root(stores: &Stores<'_>, counts: &Counts, diagram: Diagram) -> Option<Setting>

@@ -51,7 +51,7 @@ pub struct Turn {
 }
 
 // Whether the action changes where the test is known to pass.
-fn changes(action: &Action, test: Setting) -> bool
+pub(crate) fn changes(action: &Action, test: Setting) -> bool
     ensures { Decides result (slice_index_or action.now.sets test.field None ≡ Some test.value) }
 {
     let set = action.sets[test.field as usize];

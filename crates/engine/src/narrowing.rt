@@ -1,18 +1,49 @@
 // A leaf narrowed.
-ghost use Rattle.std.specs.Prelude.{◌≡◌, ◌<◌, ◌≤◌, MatchResult, OnOk};
+ghost use Rattle.std.specs.Prelude.{◌≡◌, ◌<◌, ◌≤◌, Decides, MatchResult, OnOk};
 ghost use Rattle.diagrams.specs.Tests.{contents};
-ghost use Rattle.engine.specs.State.{state};
+ghost use Rattle.engine.specs.State.{state, Present, diagram_of};
 ghost use Rattle.engine.specs.Done.{Done, Good, Kept};
 ghost use Rattle.engine.specs.Cells.{LeavesFormed};
-ghost use Rattle.engine.specs.Leaves.{LeafNarrows, LeafPresent, leaf_at};
+ghost use Rattle.engine.specs.Leaves.{LeafNarrows, LeafPresent, SetsTo, Stays, leaf_at};
 
-use super::merging::{Strand, View, merge};
+use super::enter::{action, cell};
+use super::merging::{Strand, View, changes, merge};
 use counts::Counts;
 use diagrams::Stores;
 use faults::StoreFault;
 use format::{Amount, Setting};
 use records::Diagram;
 use weights::WeightKind;
+
+// Whether an action of a leaf changes where the test is known to pass.
+fn leaf_changes(stores: &Stores<'_>, counts: &Counts, first: Amount, test: Setting) -> bool
+    requires good { Good counts.now stores.now }
+    requires present { LeafPresent (state (contents counts.now stores.now)) first.number }
+    ensures { Decides result (SetsTo test.field test.value (leaf_at (state (contents counts.now stores.now)) first.number)) }
+{
+    let mut rest = first;
+    'cells: while rest.number > 0 {
+        let own = cell(stores, counts, rest);
+        let whole = action(stores, counts, own.action);
+        if changes(&whole, test) {
+            return true;
+        }
+        rest = own.rest;
+    }
+    false
+}
+
+// Whether a diagram is a leaf in which nothing changes there.
+pub fn stays(stores: &Stores<'_>, counts: &Counts, diagram: Diagram, test: Setting) -> bool
+    requires good { Good counts.now stores.now }
+    requires present { Present (state (contents counts.now stores.now)) diagram }
+    ensures { Decides result (Stays test.field test.value (diagram_of (state (contents counts.now stores.now)) diagram)) }
+{
+    match diagram {
+        Diagram::Leaf(first) => !leaf_changes(stores, counts, first, test),
+        Diagram::Branch(_) => false,
+    }
+}
 
 // A leaf where a field holds a value.
 pub fn narrow_leaf<K: WeightKind>(

@@ -8,7 +8,7 @@ ghost use Rattle.engine.specs.Memo.{Remembers};
 
 use super::enter::{enter_node, node};
 use super::memo::{Entry, Memo, Operation};
-use super::narrowing::narrow_leaf;
+use super::narrowing::{narrow_leaf, stays};
 use counts::Counts;
 use diagrams::Stores;
 use faults::StoreFault;
@@ -32,6 +32,9 @@ pub fn narrow<K: WeightKind>(
     ensures kept { Kept counts.old stores.old counts.new stores.new }
     ensures memo { OnOk result (Remembers K.WeightKind.ops (state (contents counts.new stores.new)) memo.new.entries) }
 {
+    if stays(stores, counts, diagram, test) {
+        return Ok(diagram);
+    }
     let operation = Operation::Narrow(test);
     if let Some(result) = memo.recall(operation, diagram, diagram) {
         return Ok(result);
@@ -70,6 +73,9 @@ fn narrow_node<K: WeightKind>(
     if root.test.field != test.field {
         let yes = narrow::<K>(stores, counts, memo, root.yes, test)?;
         let no = narrow::<K>(stores, counts, memo, root.no, test)?;
+        if yes == root.yes && no == root.no {
+            return Ok(diagram);
+        }
         return make::<K>(stores, counts, memo, root.test, yes, no);
     }
     if root.test.value == test.value {

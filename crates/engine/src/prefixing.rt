@@ -1,8 +1,8 @@
 // An action before a leaf, its cells by selection, the greatest first; and before a diagram.
-ghost use Rattle.std.specs.Prelude.{◌≡◌, ◌<◌, ◌≤◌, length, MatchResult, OnOk, Some, None};
+ghost use Rattle.std.specs.Prelude.{◌≡◌, ◌<◌, ◌≤◌, length, Decides, MatchResult, OnOk, Some, None};
 ghost use Rattle.weights.specs.Weights.{Weight};
 ghost use Rattle.meaning.specs.Leaves.{LeafFormed};
-ghost use Rattle.format.specs.Actions.{compose};
+ghost use Rattle.format.specs.Actions.{compose, keep_all};
 ghost use Rattle.diagrams.specs.Tests.{contents};
 ghost use Rattle.requests.specs.Rules.{Prefixes, prefix_leaf};
 ghost use Rattle.engine.specs.State.{state, Present, diagram_of};
@@ -22,7 +22,7 @@ use counts::Counts;
 use diagrams::Stores;
 use faults::StoreFault;
 use format::Amount;
-use records::Diagram;
+use records::{Diagram, Record};
 use std::cmp::Ordering;
 use weights::WeightKind;
 
@@ -154,6 +154,23 @@ fn prefixed_leaf<K: WeightKind>(
     Ok(Diagram::Leaf(leaf))
 }
 
+// Whether an action keeps every field, with the weight one.
+fn keeps_all<K: WeightKind>(
+    stores: &Stores<'_>,
+    counts: &Counts,
+    number: Amount,
+    weight: Amount,
+) -> bool
+    requires good { Good counts.now stores.now }
+    requires action { (0 < number.number) × (number.number ≤ length (state (contents counts.now stores.now)).actions) }
+    ensures { Decides result ((action_at (state (contents counts.now stores.now)) number.number ≡ keep_all) × (weight.number ≡ K.WeightKind.ops.one)) }
+{
+    if weight.number != K::one() {
+        return false;
+    }
+    action(stores, counts, number).same(&Action::keep_all())
+}
+
 // An action with a weight, and then a diagram, remembered or made.
 #[cycle(prefixing)]
 pub fn prefix<K: WeightKind>(
@@ -173,6 +190,9 @@ pub fn prefix<K: WeightKind>(
     ensures kept { Kept counts.old stores.old counts.new stores.new }
     ensures memo { OnOk result (Remembers K.WeightKind.ops (state (contents counts.new stores.new)) memo.new.entries) }
 {
+    if keeps_all::<K>(stores, counts, action, weight) {
+        return Ok(diagram);
+    }
     let operation = Operation::Prefix(action, weight);
     if let Some(result) = memo.recall(operation, diagram, diagram) {
         return Ok(result);

@@ -6,7 +6,7 @@ ghost use Rattle.engine.specs.State.{state, Present, diagram_of};
 ghost use Rattle.engine.specs.Done.{Done, Good, Kept};
 ghost use Rattle.engine.specs.Memo.{Remembers};
 
-use super::joining::{first_root, join_leaves, off, split};
+use super::joining::{first_root, is_drop, join_leaves, off, split};
 use super::memo::{Entry, Memo, Operation};
 use super::noting::{make, narrow};
 use counts::Counts;
@@ -54,6 +54,15 @@ pub fn join<K: WeightKind>(
     ensures kept { Kept counts.old stores.old counts.new stores.new }
     ensures memo { OnOk result (Remembers K.WeightKind.ops (state (contents counts.new stores.new)) memo.new.entries) }
 {
+    if left == right {
+        return Ok(left);
+    }
+    if is_drop(right) {
+        return Ok(left);
+    }
+    if is_drop(left) {
+        return Ok(right);
+    }
     if let Some(result) = memo.recall(Operation::Join, left, right) {
         return Ok(result);
     }

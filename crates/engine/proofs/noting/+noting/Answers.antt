@@ -4,12 +4,12 @@ use Rattle.meaning.specs.Diagrams.{extent}
 use Rattle.records.proofs.Alike.{diagrams_told}
 use Rattle.records.specs.declared.kinds.Diagram.{Diagram}
 use Rattle.engine.specs.State.{diagram_of}
-use Rattle.engine.proofs.Composing.{kept_trans, same_diagram, present_grown, itself}
+use Rattle.engine.proofs.Composing.{kept_trans, same_diagram, present_grown, names_grown, itself}
 use Rattle.engine.proofs.Numbers.{never, le_trans_by, part_smaller3, parts_smaller3, side_smaller3}
 use Rattle.engine.proofs.NarrowRules.{here, leaf_word, node_counted, narrows_small, make_stops_first, make_stops_second, make_same, make_enters, make_yes, make_no, narrow_at_leaf, narrow_yes, narrow_no, narrow_stops_first, narrow_stops_second, narrow_makes, yes_narrowed}
 use Rattle.engine.specs.declared.memo.Operation.TheVariants.{Narrow}
 use Rattle.engine.proofs.Remembering.{recalled, noted, leaf_keeps, leaf_asks}
-use Rattle.engine.proofs.Unchanged.{node_keeps}
+use Rattle.engine.proofs.Unchanged.{node_keeps, leaf_stays, node_again, node_named, side_stays}
 use Rattle.engine.proofs.LeafRules.{node_leaves}
 use Rattle.engine.proofs.noting.+noting.Goals as goal
 
@@ -161,3 +161,26 @@ pub narrow-returns-clause-memo : goal.narrow-returns-clause-memo
 narrow-returns-clause-memo g t c =
     let r = c.requires in
     noted _ _ (Narrow c.args.test) c.args.diagram c.args.diagram _ tt r.present r.present c.in_ok-result.ensures.memo c.in_ok-result.ensures.done c.note.ensures
+
+pub narrow-returns-then-stays-clause-done : goal.narrow-returns-then-stays-clause-done
+narrow-returns-then-stays-clause-done g t c =
+    let r = c.requires in
+    leaf_stays g.met.K.WeightKind.lawful r.good r.memo.0 r.memo.2 c.args.diagram c.args.test.field c.args.test.value r.present (c.stays.ensures.0 c.if-stays.true)
+
+pub narrow_node-returns-then-eq-2-clause-done : goal.narrow_node-returns-then-eq-2-clause-done
+narrow_node-returns-then-eq-2-clause-done g t c =
+    let r = c.node-root.ensures in
+    let d1 = c.in_ok-yes.ensures.done in
+    let k1 = c.in_ok-yes.ensures.kept in
+    let d2 = c.in_ok-no.ensures.done in
+    let k2 = c.in_ok-no.ensures.kept in
+    let named = names_grown d2.made.added.grown (names_grown d1.made.added.grown (node_named c.requires.present c.in-Branch.is r)) in
+    let yes = side_stays d1.made.added.grown r.yes_present ((diagrams_told _ _).0 (sym c.if-eq.ensures)) d1.made.names in
+    let no = side_stays d2.made.added.grown (present_grown d1.made.added.grown c.node-root.result.no r.no_present) ((diagrams_told _ _).0 (sym c.if-eq-2.ensures)) d2.made.names in
+    let before = same_diagram d1.made.added.grown c.node-root.result.no r.no_present in
+    rw c.in-Branch.is
+    (narrow_makes _ c.requires.good c.args.test.field c.args.test.value r c.if-root-test.true d1 k1 d2 k2 yes (sym before ∙ no)
+    (node_again d2.made.good c.in_ok-no.ensures.memo.2 named))
+
+pub narrow_node-returns-then-eq-2-clause-kept : goal.narrow_node-returns-then-eq-2-clause-kept
+narrow_node-returns-then-eq-2-clause-kept g t c = kept_trans c.narrow.ensures.kept c.narrow-then-root-test.ensures.kept
