@@ -13,6 +13,7 @@ use Rattle.engine.proofs.Reading.{action_grown, longer_still, action_counted}
 use Rattle.engine.proofs.Sides.{prefix_sides, stops_first, stops_second, made_of_both, yes_less2, no_less2}
 use Rattle.engine.specs.declared.memo.Operation.TheVariants.{Prefix}
 use Rattle.engine.proofs.Remembering.{recalled, noted, leaf_keeps, leaf_asks}
+use Rattle.engine.proofs.Unchanged.{keeps_before}
 use Rattle.engine.proofs.prefixing.+prefixing.Goals as goal
 
 pub prefix_node-returns-in-Leaf-clause-done : goal.prefix_node-returns-in-Leaf-clause-done
@@ -103,3 +104,9 @@ prefix-returns-in-Some-clause-done g t c = recalled _ (Prefix c.args.action c.ar
 
 pub prefix-returns-clause-memo : goal.prefix-returns-clause-memo
 prefix-returns-clause-memo g t c = noted _ _ (Prefix c.args.action c.args.weight) c.args.diagram c.args.diagram _ c.requires.action.1 c.requires.present c.requires.present c.in_ok-result.ensures.memo c.in_ok-result.ensures.done c.note.ensures
+
+pub prefix-returns-then-keeps_all-clause-done : goal.prefix-returns-then-keeps_all-clause-done
+prefix-returns-then-keeps_all-clause-done g t c =
+    let r = c.requires in
+    let p = c.keeps_all.ensures.0 c.if-keeps_all.true in
+    keeps_before g.met.K.WeightKind.lawful r.good r.memo.0 r.memo.2 c.args.diagram r.present p.0 p.1

@@ -1,11 +1,12 @@
 use Rattle.std.proofs.Common.{sym}
 use Rattle.faults.proofs.PassedOn.{passed_on}
+use Rattle.records.proofs.Alike.{diagrams_told}
 use Rattle.engine.proofs.Composing.{kept_trans, same_diagram, present_grown, names_grown}
 use Rattle.engine.proofs.Numbers.{falls_twice}
 use Rattle.engine.proofs.JoinRules.{join_stops_first, join_stops_second, join_stops_third, join_stops_fourth, left_names, first_smaller, two_at, offs_smaller, yes_joined, join_makes}
 use Rattle.engine.specs.declared.memo.Operation.TheVariants.{Join}
 use Rattle.engine.proofs.Remembering.{recalled, noted, leaf_keeps}
-use Rattle.engine.proofs.Unchanged.{joined_asks}
+use Rattle.engine.proofs.Unchanged.{joined_asks, one_operand, drop_right, drop_left}
 use Rattle.engine.proofs.uniting.+uniting.Goals as goal
 
 pub join_node-returns-in_err-left_at-clause-done : goal.join_node-returns-in_err-left_at-clause-done
@@ -154,3 +155,18 @@ pub join-returns-clause-memo : goal.join-returns-clause-memo
 join-returns-clause-memo g t c =
     let r = c.requires in
     noted _ _ Join c.args.left c.args.right _ tt r.left r.right c.in_ok-result.ensures.memo c.in_ok-result.ensures.done c.note.ensures
+
+pub join-returns-then-eq-clause-done : goal.join-returns-then-eq-clause-done
+join-returns-then-eq-clause-done g t c =
+    let r = c.requires in
+    one_operand g.met.K.WeightKind.lawful r.good r.memo.0 r.memo.2 c.args.left c.args.right r.left ((diagrams_told _ _).0 (sym c.if-eq.ensures))
+
+pub join-returns-then-is_drop-clause-done : goal.join-returns-then-is_drop-clause-done
+join-returns-then-is_drop-clause-done g t c =
+    let r = c.requires in
+    drop_right g.met.K.WeightKind.lawful r.good r.memo.0 r.memo.2 c.args.left c.args.right r.left (c.is_drop.ensures.0 c.if-is_drop.true)
+
+pub join-returns-then-is_drop-2-clause-done : goal.join-returns-then-is_drop-2-clause-done
+join-returns-then-is_drop-2-clause-done g t c =
+    let r = c.requires in
+    drop_left g.met.K.WeightKind.lawful r.good r.memo.0 r.memo.2 c.args.left c.args.right r.right (c.is_drop-2.ensures.0 c.if-is_drop-2.true)
