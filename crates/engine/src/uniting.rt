@@ -54,10 +54,7 @@ pub fn join<K: WeightKind>(
     ensures kept { Kept counts.old stores.old counts.new stores.new }
     ensures memo { OnOk result (Remembers K.WeightKind.ops (state (contents counts.new stores.new)) memo.new.entries) }
 {
-    if left == right {
-        return Ok(left);
-    }
-    if is_drop(right) {
+    if left == right || is_drop(right) {
         return Ok(left);
     }
     if is_drop(left) {

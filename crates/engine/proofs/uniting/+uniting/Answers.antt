@@ -7,6 +7,7 @@ use Rattle.engine.proofs.JoinRules.{join_stops_first, join_stops_second, join_st
 use Rattle.engine.specs.declared.memo.Operation.TheVariants.{Join}
 use Rattle.engine.proofs.Remembering.{recalled, noted, leaf_keeps}
 use Rattle.engine.proofs.Unchanged.{joined_asks, one_operand, drop_right, drop_left}
+use Rattle.engine.proofs.uniting.+uniting.Goals.{join-then-eq-via-then-eq, join-then-eq-via-else-eq+then-is_drop}
 use Rattle.engine.proofs.uniting.+uniting.Goals as goal
 
 pub join_node-returns-in_err-left_at-clause-done : goal.join_node-returns-in_err-left_at-clause-done
@@ -159,12 +160,11 @@ join-returns-clause-memo g t c =
 pub join-returns-then-eq-clause-done : goal.join-returns-then-eq-clause-done
 join-returns-then-eq-clause-done g t c =
     let r = c.requires in
-    one_operand g.met.K.WeightKind.lawful r.good r.memo.0 r.memo.2 c.args.left c.args.right r.left ((diagrams_told _ _).0 (sym c.if-eq.ensures))
-
-pub join-returns-then-is_drop-clause-done : goal.join-returns-then-is_drop-clause-done
-join-returns-then-is_drop-clause-done g t c =
-    let r = c.requires in
-    drop_right g.met.K.WeightKind.lawful r.good r.memo.0 r.memo.2 c.args.left c.args.right r.left (c.is_drop.ensures.0 c.if-is_drop.true)
+    let L = g.met.K.WeightKind.lawful in
+    elim c.then-eq.branch [
+      join-then-eq-via-then-eq w ↦ one_operand L r.good r.memo.0 r.memo.2 c.args.left c.args.right r.left ((diagrams_told _ _).0 (sym w.if-eq.ensures))
+    | join-then-eq-via-else-eq+then-is_drop w ↦ drop_right L r.good r.memo.0 r.memo.2 c.args.left c.args.right r.left (w.is_drop.ensures.0 w.if-is_drop.true)
+    ]
 
 pub join-returns-then-is_drop-2-clause-done : goal.join-returns-then-is_drop-2-clause-done
 join-returns-then-is_drop-2-clause-done g t c =
