@@ -36,3 +36,4 @@ pub mod Steps
 pub mod Unchanged
 pub mod Calls
 pub mod Empty
+pub mod Tabulating

@@ -14,5 +14,6 @@ pub mod Words
 pub mod Compiling
 pub mod Listing
 pub mod Sheets
+pub mod Puts
 pub mod Listed
 pub mod Views

@@ -2,15 +2,17 @@
 ghost use Rattle.std.specs.Prelude.{◌≡◌, length};
 ghost use Rattle.checking.specs.Checked.{policy_words};
 ghost use Rattle.stored.specs.Calls.{Constructs, Compile, Union, Sequence, Star};
+ghost use Rattle.engine.specs.Listed.{Tabulates};
 ghost use Rattle.engine.specs.Views.{nothing, rooms_of};
 
 use super::memo::Memo;
-use super::{compiling, sequencing, starring, uniting};
+use super::{compiling, putting, sequencing, starring, uniting};
 use actions::Action;
 use checking::CheckedPolicy;
 use counts::{Counts, Guard};
 use diagrams::Stores;
-use faults::StoreFault;
+use faults::{BenchFault, StoreFault};
+use format::VALUE_END;
 use records::{Cell, Node};
 use std::marker::{Model, PhantomData};
 use stores::Store;
@@ -28,6 +30,7 @@ pub struct Engine<'a, K: WeightKind> {
 impl<'a, K: WeightKind> Model for Engine<'a, K> {
     ghost use Rattle.stored.specs.Stored.{Holdings};
     ghost use Rattle.stored.specs.Codes.{holdings_code};
+    ghost use Rattle.engine.specs.Listed.{Tabulates};
     ghost use Rattle.engine.specs.Views.{holdings, SoundEngine};
 
     ghost Value = { Holdings };
@@ -70,6 +73,16 @@ impl<K: WeightKind> Engine<'_, K> {
         ensures nodes { result.nodes ≡ length self.now.stored.nodes }
     {
         self.counts
+    }
+
+    // Writes the table of a diagram in store at the front of memory. Its length is judged before a word is written.
+    pub fn list(&self, word: u32, out: &mut [u32]) -> Result<usize, BenchFault>
+        ensures { Tabulates K.WeightKind.ops self.now.stored word out.old result out.new }
+    {
+        let diagram = self.counts.operand(0, word)?;
+        // An end word counts no more rows.
+        let room = out.len().min(VALUE_END as usize);
+        Ok(putting::list::<K>(&self.stores, &self.counts, diagram, &mut out[..room])?)
     }
 
     // The union of two diagrams in store. Here and below a refusal changes nothing.

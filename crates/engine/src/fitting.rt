@@ -1,11 +1,9 @@
 // Whether the rows of a diagram are no longer than so many words.
-ghost use Rattle.std.specs.Prelude.{◌≡◌, ◌<◌, ◌≤◌, ◌+◌, length, take, drop};
+ghost use Rattle.std.specs.Prelude.{◌≡◌, ◌<◌, ◌≤◌, ◌+◌, length, drop};
 ghost use Rattle.format.specs.Fields.{fields};
-ghost use Rattle.diagrams.specs.Tests.{contents};
-ghost use Rattle.engine.specs.State.{state, Present, diagram_of};
 ghost use Rattle.engine.specs.Done.{Good};
-ghost use Rattle.engine.specs.Leaves.{LeafPresent, leaf_at};
-ghost use Rattle.engine.specs.Listing.{Fits, set_words, cells_words, leaf_words, rows_words, ways};
+ghost use Rattle.engine.specs.Listing.{Fits, ShortWay, set_words, cells_words, leaf_words, rows_words};
+ghost use Rattle.engine.specs.Puts.{LeafInStore, cells_from, InStore, diagram_in, way_words};
 
 use super::enter::{action, cell, node};
 use super::way::Way;
@@ -16,7 +14,7 @@ use format::Amount;
 use records::Diagram;
 
 // What is left of the room behind the set words of an action from a field on.
-pub fn sets_fit(kept: &Action, from: usize, room: usize) -> Option<usize>
+pub(crate) fn sets_fit(kept: &Action, from: usize, room: usize) -> Option<usize>
     requires { from ≤ fields }
     ensures { Fits room (set_words from (drop from kept.now.sets)) result }
 {
@@ -31,10 +29,15 @@ pub fn sets_fit(kept: &Action, from: usize, room: usize) -> Option<usize>
 }
 
 // What is left of the room behind the words of a leaf's cells.
-pub fn cells_fit(stores: &Stores<'_>, counts: &Counts, first: Amount, room: usize) -> Option<usize>
+pub(crate) fn cells_fit(
+    stores: &Stores<'_>,
+    counts: &Counts,
+    first: Amount,
+    room: usize,
+) -> Option<usize>
     requires good { Good counts.now stores.now }
-    requires present { LeafPresent (state (contents counts.now stores.now)) first.number }
-    ensures { Fits room (cells_words (leaf_at (state (contents counts.now stores.now)) first.number)) result }
+    requires present { LeafInStore counts.now stores.now first }
+    ensures { Fits room (cells_words (cells_from counts.now stores.now first)) result }
 {
     if first.number == 0 {
         return Some(room);
@@ -51,7 +54,7 @@ pub fn cells_fit(stores: &Stores<'_>, counts: &Counts, first: Amount, room: usiz
 }
 
 // What is left of the room behind the row of a leaf.
-pub fn leaf_fits(
+pub(crate) fn leaf_fits(
     stores: &Stores<'_>,
     counts: &Counts,
     way: &Way,
@@ -59,8 +62,8 @@ pub fn leaf_fits(
     room: usize,
 ) -> Option<usize>
     requires good { Good counts.now stores.now }
-    requires present { LeafPresent (state (contents counts.now stores.now)) first.number }
-    ensures { Fits room (leaf_words (take way.now.count way.now.words) (leaf_at (state (contents counts.now stores.now)) first.number)) result }
+    requires present { LeafInStore counts.now stores.now first }
+    ensures { Fits room (leaf_words (way_words way.now) (cells_from counts.now stores.now first)) result }
 {
     if room <= way.count {
         return None;
@@ -69,7 +72,7 @@ pub fn leaf_fits(
 }
 
 // What is left of the room behind the rows of a diagram.
-pub fn rows_fit(
+pub(crate) fn rows_fit(
     stores: &Stores<'_>,
     counts: &Counts,
     way: &Way,
@@ -77,9 +80,9 @@ pub fn rows_fit(
     room: usize,
 ) -> Option<usize>
     requires good { Good counts.now stores.now }
-    requires present { Present (state (contents counts.now stores.now)) diagram }
-    requires short { length (take way.now.count way.now.words) + ways (diagram_of (state (contents counts.now stores.now)) diagram) ≤ fields }
-    ensures { Fits room (rows_words (take way.now.count way.now.words) (diagram_of (state (contents counts.now stores.now)) diagram)) result }
+    requires present { InStore counts.now stores.now diagram }
+    requires short { ShortWay (way_words way.now) (diagram_in counts.now stores.now diagram) }
+    ensures { Fits room (rows_words (way_words way.now) (diagram_in counts.now stores.now diagram)) result }
 {
     let number = match diagram {
         Diagram::Leaf(first) => return leaf_fits(stores, counts, way, first, room),

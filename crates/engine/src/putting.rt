@@ -1,15 +1,12 @@
 // The table of a diagram, written.
-ghost use Rattle.std.specs.Prelude.{◌≡◌, ◌<◌, ◌≤◌, ◌+◌, length, take, drop};
+ghost use Rattle.std.specs.Prelude.{◌≡◌, ◌<◌, ◌≤◌, ◌+◌, length, drop};
 ghost use Rattle.format.specs.Fields.{fields};
 ghost use Rattle.format.specs.Words.{value_end};
 ghost use Rattle.meaning.specs.Diagrams.{Formed};
-ghost use Rattle.diagrams.specs.Tests.{contents};
-ghost use Rattle.engine.specs.State.{state, Present, diagram_of};
 ghost use Rattle.engine.specs.Done.{Good};
-ghost use Rattle.engine.specs.Leaves.{LeafPresent, leaf_at};
 ghost use Rattle.engine.specs.Listed.{Listed};
-ghost use Rattle.engine.specs.Listing.{set_words, cells_words, leaf_words, rows_words, ways, leaf_count};
-ghost use Rattle.engine.specs.Sheets.{Writes};
+ghost use Rattle.engine.specs.Listing.{ShortWay, set_words, cells_words, leaf_words, rows_words, leaf_count};
+ghost use Rattle.engine.specs.Puts.{Puts, RoomFor, LeafInStore, cells_from, InStore, diagram_in, way_words};
 
 use super::enter::{action, cell, node};
 use super::fitting::rows_fit;
@@ -18,18 +15,17 @@ use super::way::Way;
 use actions::{Action, WIDTH};
 use counts::Counts;
 use diagrams::Stores;
+use faults::TableFault;
 use format::Amount;
 use records::Diagram;
 use tables::{TableKind, TableWord};
 use weights::WeightKind;
 
 // Writes words from a place on.
-pub fn put_words(sheet: &mut Sheet<'_>, words: &[u32], from: usize)
+pub(crate) fn put_words(sheet: &mut Sheet<'_>, words: &[u32], from: usize)
     requires from { from ≤ length words.now }
-    requires room { sheet.old.count + length (drop from words.now) ≤ length sheet.old.words.now }
-    ensures written { Writes sheet.old.words.now sheet.old.count (drop from words.now) sheet.new.words.now sheet.new.count }
-    ensures rows { sheet.new.rows ≡ sheet.old.rows }
-    ensures lender { sheet.new.words.ghost_name ≡ sheet.old.words.ghost_name }
+    requires room { RoomFor sheet.old (drop from words.now) }
+    ensures { Puts sheet.old (drop from words.now) 0 sheet.new }
 {
     if from == words.len() {
         return;
@@ -39,12 +35,10 @@ pub fn put_words(sheet: &mut Sheet<'_>, words: &[u32], from: usize)
 }
 
 // Writes the set words of an action from a field on.
-pub fn put_sets(sheet: &mut Sheet<'_>, kept: &Action, from: usize)
+pub(crate) fn put_sets(sheet: &mut Sheet<'_>, kept: &Action, from: usize)
     requires from { from ≤ fields }
-    requires room { sheet.old.count + length (set_words from (drop from kept.now.sets)) ≤ length sheet.old.words.now }
-    ensures written { Writes sheet.old.words.now sheet.old.count (set_words from (drop from kept.now.sets)) sheet.new.words.now sheet.new.count }
-    ensures rows { sheet.new.rows ≡ sheet.old.rows }
-    ensures lender { sheet.new.words.ghost_name ≡ sheet.old.words.ghost_name }
+    requires room { RoomFor sheet.old (set_words from (drop from kept.now.sets)) }
+    ensures { Puts sheet.old (set_words from (drop from kept.now.sets)) 0 sheet.new }
 {
     if from == WIDTH {
         return;
@@ -61,13 +55,11 @@ pub fn put_sets(sheet: &mut Sheet<'_>, kept: &Action, from: usize)
 }
 
 // Writes the words of a leaf's cells.
-pub fn put_cells(stores: &Stores<'_>, counts: &Counts, sheet: &mut Sheet<'_>, first: Amount)
+pub(crate) fn put_cells(stores: &Stores<'_>, counts: &Counts, sheet: &mut Sheet<'_>, first: Amount)
     requires good { Good counts.now stores.now }
-    requires present { LeafPresent (state (contents counts.now stores.now)) first.number }
-    requires room { sheet.old.count + length (cells_words (leaf_at (state (contents counts.now stores.now)) first.number)) ≤ length sheet.old.words.now }
-    ensures written { Writes sheet.old.words.now sheet.old.count (cells_words (leaf_at (state (contents counts.now stores.now)) first.number)) sheet.new.words.now sheet.new.count }
-    ensures rows { sheet.new.rows ≡ sheet.old.rows }
-    ensures lender { sheet.new.words.ghost_name ≡ sheet.old.words.ghost_name }
+    requires present { LeafInStore counts.now stores.now first }
+    requires room { RoomFor sheet.old (cells_words (cells_from counts.now stores.now first)) }
+    ensures { Puts sheet.old (cells_words (cells_from counts.now stores.now first)) 0 sheet.new }
 {
     if first.number == 0 {
         return;
@@ -85,11 +77,11 @@ pub fn put_cells(stores: &Stores<'_>, counts: &Counts, sheet: &mut Sheet<'_>, fi
 }
 
 // How many cells a leaf has.
-pub fn count_cells(stores: &Stores<'_>, counts: &Counts, first: Amount) -> u32
+pub(crate) fn count_cells(stores: &Stores<'_>, counts: &Counts, first: Amount) -> u32
     requires good { Good counts.now stores.now }
-    requires present { LeafPresent (state (contents counts.now stores.now)) first.number }
-    requires few { length (leaf_at (state (contents counts.now stores.now)) first.number) < value_end }
-    ensures { result ≡ length (leaf_at (state (contents counts.now stores.now)) first.number) }
+    requires present { LeafInStore counts.now stores.now first }
+    requires few { length (cells_from counts.now stores.now first) < value_end }
+    ensures { result ≡ length (cells_from counts.now stores.now first) }
 {
     if first.number == 0 {
         return 0;
@@ -99,7 +91,7 @@ pub fn count_cells(stores: &Stores<'_>, counts: &Counts, first: Amount) -> u32
 }
 
 // Writes the row of a leaf.
-pub fn put_leaf(
+pub(crate) fn put_leaf(
     stores: &Stores<'_>,
     counts: &Counts,
     sheet: &mut Sheet<'_>,
@@ -107,12 +99,10 @@ pub fn put_leaf(
     first: Amount,
 )
     requires good { Good counts.now stores.now }
-    requires present { LeafPresent (state (contents counts.now stores.now)) first.number }
+    requires present { LeafInStore counts.now stores.now first }
     requires countable { length sheet.old.words.now ≤ value_end }
-    requires room { sheet.old.count + length (leaf_words (take way.now.count way.now.words) (leaf_at (state (contents counts.now stores.now)) first.number)) ≤ length sheet.old.words.now }
-    ensures written { Writes sheet.old.words.now sheet.old.count (leaf_words (take way.now.count way.now.words) (leaf_at (state (contents counts.now stores.now)) first.number)) sheet.new.words.now sheet.new.count }
-    ensures rows { sheet.new.rows ≡ sheet.old.rows + 1 }
-    ensures lender { sheet.new.words.ghost_name ≡ sheet.old.words.ghost_name }
+    requires room { RoomFor sheet.old (leaf_words (way_words way.now) (cells_from counts.now stores.now first)) }
+    ensures { Puts sheet.old (leaf_words (way_words way.now) (cells_from counts.now stores.now first)) 1 sheet.new }
 {
     let head = TableWord {
         kind: TableKind::Head,
@@ -126,7 +116,7 @@ pub fn put_leaf(
 }
 
 // Writes the rows of a diagram.
-pub fn put_rows(
+pub(crate) fn put_rows(
     stores: &Stores<'_>,
     counts: &Counts,
     sheet: &mut Sheet<'_>,
@@ -134,13 +124,11 @@ pub fn put_rows(
     diagram: Diagram,
 )
     requires good { Good counts.now stores.now }
-    requires present { Present (state (contents counts.now stores.now)) diagram }
-    requires short { length (take way.now.count way.now.words) + ways (diagram_of (state (contents counts.now stores.now)) diagram) ≤ fields }
+    requires present { InStore counts.now stores.now diagram }
+    requires short { ShortWay (way_words way.now) (diagram_in counts.now stores.now diagram) }
     requires countable { length sheet.old.words.now ≤ value_end }
-    requires room { sheet.old.count + length (rows_words (take way.now.count way.now.words) (diagram_of (state (contents counts.now stores.now)) diagram)) ≤ length sheet.old.words.now }
-    ensures written { Writes sheet.old.words.now sheet.old.count (rows_words (take way.now.count way.now.words) (diagram_of (state (contents counts.now stores.now)) diagram)) sheet.new.words.now sheet.new.count }
-    ensures rows { sheet.new.rows ≡ sheet.old.rows + leaf_count (diagram_of (state (contents counts.now stores.now)) diagram) }
-    ensures lender { sheet.new.words.ghost_name ≡ sheet.old.words.ghost_name }
+    requires room { RoomFor sheet.old (rows_words (way_words way.now) (diagram_in counts.now stores.now diagram)) }
+    ensures { let d = diagram_in counts.now stores.now diagram in Puts sheet.old (rows_words (way_words way.now) d) (leaf_count d) sheet.new }
 {
     let number = match diagram {
         Diagram::Leaf(first) => return put_leaf(stores, counts, sheet, way, first),
@@ -153,24 +141,24 @@ pub fn put_rows(
 }
 
 // Writes the table of a diagram, if it is no longer than the memory.
-pub fn list<K: WeightKind>(
+pub(crate) fn list<K: WeightKind>(
     stores: &Stores<'_>,
     counts: &Counts,
     diagram: Diagram,
     out: &mut [u32],
-) -> Option<usize>
+) -> Result<usize, TableFault>
     requires good { Good counts.now stores.now }
-    requires present { Present (state (contents counts.now stores.now)) diagram }
-    requires formed { Formed K.WeightKind.ops (diagram_of (state (contents counts.now stores.now)) diagram) }
+    requires present { InStore counts.now stores.now diagram }
+    requires formed { Formed K.WeightKind.ops (diagram_in counts.now stores.now diagram) }
     requires countable { length out.old ≤ value_end }
-    ensures { Listed (diagram_of (state (contents counts.now stores.now)) diagram) out.old result out.new }
+    ensures { Listed (diagram_in counts.now stores.now diagram) out.old result out.new }
 {
     let way = Way::none();
     let Some(left) = rows_fit(stores, counts, &way, diagram, out.len()) else {
-        return None;
+        return Err(TableFault::Full);
     };
     if left == 0 {
-        return None;
+        return Err(TableFault::Full);
     }
     let mut sheet = Sheet::empty(out);
     put_rows(stores, counts, &mut sheet, &way, diagram);
@@ -180,5 +168,5 @@ pub fn list<K: WeightKind>(
         value: sheet.rows as u32,
     };
     sheet.push(u32::from(end));
-    Some(sheet.count)
+    Ok(sheet.count)
 }
