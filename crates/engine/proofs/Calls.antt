@@ -19,7 +19,7 @@ use Rattle.diagrams.specs.declared.memory.Stores.{Stores}
 use Rattle.diagrams.specs.Tests.{contents}
 use Rattle.stored.specs.Stored.{Stored, Holdings, diagram}
 use Rattle.stored.specs.Calls.{Call, Compile, Union, Sequence, Star, Builds, of_policy, of_union, of_sequence, of_star, Unheld, Constructs, built, full, not_held}
-use Rattle.engine.specs.declared.memo.Entry.{Entry}
+use Rattle.engine.specs.declared.memo.PackedEntry.{PackedEntry}
 use Rattle.engine.specs.State.{state, diagram_of, Present}
 use Rattle.engine.specs.Cells.{LeavesFormed}
 use Rattle.engine.specs.Done.{Kept, Done}
@@ -36,7 +36,7 @@ Operand c bits d = (word_of d ≡ bits) × WordHeld c.cells c.nodes d
 abbrev pub NoOperand : Counts → ℕ → ℕ → StoreFault → Type 0
 NoOperand c place bits f = (f ≡ NotHeld place) × ((d : Diagram) → word_of d ≡ bits → WordHeld c.cells c.nodes d → ⊥)
 
-module _ {o : Ops} {m : Stores} {c : Counts} {l : List (Option Entry)} (b : SoundEngine o m c l) where
+module _ {o : Ops} {m : Stores} {c : Counts} {l : List (Option PackedEntry)} (b : SoundEngine o m c l) where
   abbrev S : Stored
   S = state (contents c m)
 
@@ -93,7 +93,7 @@ module _ {o : Ops} {m : Stores} {c : Counts} {l : List (Option Entry)} (b : Soun
           (subst (λ (x : Result ℕ StoreFault). Constructs o (holdings m c) call x (holdings m c)) (sym (passed_on t ∙ ap {B = Result ℕ StoreFault} Err g'.made.0))
           (full (builds g'.out g'.asks g'.by_the_rules) (over_of m S g'.asks g'.made.1)))))
 
-      pub refused_engine : {l'' : List (Option Entry)} → NothingWritten l'' → SoundEngine o m' e l''
+      pub refused_engine : {l'' : List (Option PackedEntry)} → NothingWritten l'' → SoundEngine o m' e l''
       refused_engine {l''} n =
           subst (λ (u : Counts). SoundEngine o m' u l'') (sym j)
           (record {
@@ -112,7 +112,7 @@ module _ {o : Ops} {m : Stores} {c : Counts} {l : List (Option Entry)} (b : Soun
           (subst (λ (z : Holdings). Constructs o (holdings m c) call (Ok (word_of w)) z) (λ p. record { stored = state (contents c' m'); rooms = sym (same_rooms m m' its_kept.memory) p })
           (built (builds g'.out g'.asks g'.by_the_rules) (grows_of c c' m m' g'.out g'.asks w its_kept g'.made)))))
 
-      pub built_engine : {l' l'' : List (Option Entry)} → ((r : MDiagram) (asks : List Request) → R c r asks → Each (RecordFormed o) asks) → l'' ≡ l' → OnOk result (Remembers o (state (contents c' m')) l') → SoundEngine o m' e l''
+      pub built_engine : {l' l'' : List (Option PackedEntry)} → ((r : MDiagram) (asks : List Request) → R c r asks → Each (RecordFormed o) asks) → l'' ≡ l' → OnOk result (Remembers o (state (contents c' m')) l') → SoundEngine o m' e l''
       built_engine {l'} {l''} a n r =
           let g' = its_done (Ok w) (subst (λ (x : Result Diagram StoreFault). Done (R d) d m c' m' x) q g) in
           subst (λ (u : Counts). SoundEngine o m' u l'') (sym j)
@@ -140,7 +140,7 @@ compile_rules o ws c r asks = (p : Policy) × Accepted ws p × Compiled o p r as
 pub compiled_done : {o : Ops} {ws : List ℕ} {c c' : Counts} {m m' : Stores} {result : Result Diagram StoreFault} → CompiledFrom o ws c m c' m' result → Done (compile_rules o ws c) c m c' m' result
 compiled_done h = record { out = h.done.out; asks = h.done.asks; by_the_rules = (h.policy, h.accepted, h.done.by_the_rules); made = h.done.made }
 
-module _ {o : Ops} {m : Stores} {c : Counts} {l : List (Option Entry)} (b : SoundEngine o m c l) where
+module _ {o : Ops} {m : Stores} {c : Counts} {l : List (Option PackedEntry)} (b : SoundEngine o m c l) where
   pub union_builds : {x y : ℕ} (v w : Diagram) → Operand c x v → Operand c y w → (r : MDiagram) (asks : List Request) → union_rules o m v w c r asks → Builds o (state (contents c m)) (Union x y) r asks
   union_builds v w p q r asks h = of_union (operand_held b v p) (operand_held b w q) h
 

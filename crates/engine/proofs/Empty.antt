@@ -10,7 +10,7 @@ use Rattle.counts.specs.declared.counts.Counts.{Counts}
 use Rattle.diagrams.specs.declared.memory.Stores.{Stores}
 use Rattle.diagrams.specs.Tests.{contents}
 use Rattle.stored.specs.Stored.{Stored, Has}
-use Rattle.engine.specs.declared.memo.Entry.{Entry}
+use Rattle.engine.specs.declared.memo.PackedEntry.{PackedEntry}
 use Rattle.engine.specs.State.{state}
 use Rattle.engine.specs.Done.{Good}
 use Rattle.engine.specs.Memo.{NothingWritten}
@@ -53,7 +53,7 @@ module _ (s : Stores) (c : Counts) (z : (c.actions ≡ 0) × (c.cells ≡ 0) × 
   pub empty_holdings : holdings s c ≡ record { stored = nothing; rooms = rooms_in s }
   empty_holdings = subst (λ (d : Counts). holdings s d ≡ record { stored = nothing; rooms = rooms_in s }) counts_none (λ i. record { stored = empty_state s i; rooms = rooms_in s })
 
-  pub empty_engine : (o : Ops) (l : List (Option Entry)) → NothingWritten l → SoundEngine o s c l
+  pub empty_engine : (o : Ops) (l : List (Option PackedEntry)) → NothingWritten l → SoundEngine o s c l
   empty_engine o l n = subst (λ (d : Counts). SoundEngine o s d l) counts_none (record { good = none_good s; formed = λ q h. absurd (no q h); remembers = (λ n k h. absurd (none_numbered n k h), λ e w. absurd (n e w), λ q h. absurd (no q h)) })
     where
       no : (q : Request) → Has (state (contents none s)) q → ⊥

@@ -1,7 +1,12 @@
 -- What is remembered stays true.
 use Rattle.std.specs.List.{slice_get}
+use Rattle.std.specs.Option.{IfSome}
+use Rattle.std.specs.Result.{result_ok, MatchResult}
+use Rattle.std.proofs.Common.{slice_set}
+use Rattle.records.specs.Words.{word_of}
+use Rattle.records.proofs.Alike.{its_word}
 use Rattle.std.proofs.Math.ListN.{replicate}
-use Rattle.std.proofs.Common.{◌≡◌, ℕ, zero, suc, ◌⊎◌, List, [], Some, None, Option, Ok, Err, Result, OnOk, sym, refl, ap, ◌∙◌, subst, inl, inr}
+use Rattle.std.proofs.Common.{◌≡◌, ℕ, zero, suc, ◌⊎◌, List, [], ◌∷◌, Some, None, Option, Ok, Err, Result, OnOk, sym, refl, ap, ◌∙◌, subst, inl, inr}
 use Rattle.weights.specs.Weights.{Ops}
 use Rattle.weights.specs.Order.{In}
 use Rattle.meaning.specs.Leaves.{Cell as MCell, Each}
@@ -15,13 +20,14 @@ use Rattle.records.specs.declared.kinds.Diagram.{Diagram}
 use Rattle.counts.specs.declared.counts.Counts.{Counts}
 use Rattle.diagrams.specs.declared.memory.Stores.{Stores}
 use Rattle.engine.specs.declared.memo.Entry.{Entry}
+use Rattle.engine.specs.declared.memo.PackedEntry.{PackedEntry}
 use Rattle.engine.specs.declared.memo.Operation.{Operation}
 use Rattle.engine.specs.declared.memo.Operation.TheVariants.{Narrow, Join, Choose, Prefix, Sequence, Not}
-use Rattle.engine.specs.Built.{numbered_or}
+use Rattle.engine.specs.Built.{some_or, numbered_or}
 use Rattle.engine.specs.State.{State, Present, Names, Has, Grown}
 use Rattle.engine.specs.Cells.{LeavesFormed}
 use Rattle.engine.specs.Done.{Good, Done, Added}
-use Rattle.engine.specs.Memo.{Written, asked_for, Fits, Remembered, Remembers, AllRemade, Noted, Recalled}
+use Rattle.engine.specs.Memo.{Written, asked_for, Fits, Remembered, Remembers, AllRemade, Noted, Recalled, packed_entry}
 use Rattle.engine.proofs.Numbers.{each_map, or_grown}
 use Rattle.engine.proofs.Composing.{names_grown, has_grown, same_diagram, present_grown, grown_refl, complete, kept_refl}
 use Rattle.engine.proofs.Alike.{narrows_alike, joins_alike, chooses_alike, prefixes_alike, sequences_alike, negates_alike}
@@ -59,7 +65,7 @@ module _ {s s' : State} (g : Grown s s') where
         held = each_map (has_grown g) r.asks r.held;
       }
 
-  pub remembers_grown : (o : Ops) (l : List (Option Entry)) → LeavesFormed o s' → AllRemade o s' → Remembers o s l → Remembers o s' l
+  pub remembers_grown : (o : Ops) (l : List (Option PackedEntry)) → LeavesFormed o s' → AllRemade o s' → Remembers o s l → Remembers o s' l
   remembers_grown o l f r m = (f, λ e h. remembered_grown o e (m.1 e h), r)
 
 -- nodes are made again where those asked for are
@@ -76,7 +82,7 @@ leaf_asks o H l e = subst (λ (x : List Request). Each (RecordRemade o H) x) (sy
 module _ {o : Ops} where
   -- what does not touch the memo keeps it
   pub memo_keeps :
-      {c c' : Counts} {s s' : Stores} {R : Construction} (l : List (Option Entry)) (result : Result Diagram StoreFault) →
+      {c c' : Counts} {s s' : Stores} {R : Construction} (l : List (Option PackedEntry)) (result : Result Diagram StoreFault) →
       Remembers o (here c s) l →
       OnOk result (LeavesFormed o (here c' s')) →
       (d : Done R c s c' s' result) →
@@ -86,7 +92,7 @@ module _ {o : Ops} where
   memo_keeps l (Err e) m f d r = tt
 
   pub leaf_keeps :
-      {c c' : Counts} {s s' : Stores} {R : Construction} (l : List (Option Entry)) (result : Result Diagram StoreFault) →
+      {c c' : Counts} {s s' : Stores} {R : Construction} (l : List (Option PackedEntry)) (result : Result Diagram StoreFault) →
       Remembers o (here c s) l →
       OnOk result (LeavesFormed o (here c' s')) →
       (d : Done R c s c' s' result) →
@@ -97,7 +103,7 @@ module _ {o : Ops} where
 
   -- what is remembered is done
   pub recalled :
-      {c : Counts} {s : Stores} (l : List (Option Entry)) (x : Operation) (left right : Diagram) {w : Diagram} →
+      {c : Counts} {s : Stores} (l : List (Option PackedEntry)) (x : Operation) (left right : Diagram) {w : Diagram} →
       Good c s →
       Remembers o (here c s) l →
       Recalled l x left right w →
@@ -112,7 +118,7 @@ module _ {o : Ops} where
 
   -- what is done may be noted
   pub noted :
-      {c c' : Counts} {s s' : Stores} (l l' : List (Option Entry)) (x : Operation) (left right w : Diagram) →
+      {c c' : Counts} {s s' : Stores} (l l' : List (Option PackedEntry)) (x : Operation) (left right w : Diagram) →
       Fits (here c s) x →
       Present (here c s) left →
       Present (here c s) right →
@@ -140,7 +146,50 @@ module _ {o : Ops} where
             held = d.made.added.asked;
           })
 
-pub none_written : (n i : ℕ) (e : Entry) → slice_get (replicate {A = Option Entry} n None) i ≡ Some (Some e) → ⊥
+pub none_written : (n i : ℕ) (e : Entry) → slice_get (replicate {A = Option PackedEntry} n None) i ≡ Some (Some (packed_entry e)) → ⊥
 none_written zero i e h = cc
 none_written (suc n) zero e h = cc
 none_written (suc n) (suc i) e h = none_written n i e h
+
+-- what is in a place after one place was written
+after_writing : {A : Type 0} (l : List A) (i j : ℕ) (x y : A) → slice_get (slice_set l i x) j ≡ Some y → (slice_get l j ≡ Some y) ⊎ (y ≡ x)
+after_writing [] i j x y h = inl h
+after_writing (a ∷ l) zero zero x y h = inr (sym (ap (some_or y) h))
+after_writing (a ∷ l) zero (suc j) x y h = inl h
+after_writing (a ∷ l) (suc i) zero x y h = inl h
+after_writing (a ∷ l) (suc i) (suc j) x y h = after_writing l i j x y h
+
+-- entries that lie in memory alike are the same
+entries_apart : (e f : Entry) → packed_entry f ≡ packed_entry e → f ≡ e
+entries_apart e f h =
+    let l : f.left ≡ e.left = (its_word e.left _ refl).alone f.left (ap (λ (p : PackedEntry). p.left) h) in
+    let r : f.right ≡ e.right = (its_word e.right _ refl).alone f.right (ap (λ (p : PackedEntry). p.right) h) in
+    let w : f.result ≡ e.result = (its_word e.result _ refl).alone f.result (ap (λ (p : PackedEntry). p.result) h) in
+    λ i. record { operation = (h i).operation; left = l i; right = r i; result = w i }
+
+pub noted_in : (l : List (Option PackedEntry)) (i : ℕ) (e : Entry) (p : PackedEntry) → p ≡ packed_entry e → Noted l e (slice_set l i (Some p))
+noted_in l i e p k f (j, h) = choose_way (after_writing l i j (Some p) (Some (packed_entry f)) h)
+  where
+    choose_way : (slice_get l j ≡ Some (Some (packed_entry f))) ⊎ (Some (packed_entry f) ≡ Some p) → Written l f ⊎ (f ≡ e)
+    choose_way (inl h) = inl (j, h)
+    choose_way (inr h) = inr (entries_apart e f (ap (some_or p) h ∙ k))
+
+-- what a place holds is recalled, where its word is one
+pub read_back :
+    {E : Type 0} (Q : E → Type 0) (l : List (Option PackedEntry)) (i : ℕ) (p : PackedEntry) (x : Operation) (left right : Diagram) (r : Result Diagram E) →
+    slice_get l i ≡ Some (Some p) →
+    p.operation ≡ x →
+    p.left ≡ word_of left →
+    p.right ≡ word_of right →
+    MatchResult r (λ d. word_of d ≡ p.result) Q →
+    IfSome (result_ok r) (λ w. Recalled l x left right w)
+read_back Q l i p x left right (Ok d) h a b c k =
+    record {
+      entry = record { operation = p.operation; left = left; right = right; result = d };
+      written = (i, h ∙ ap (λ (q : PackedEntry). Some (Some q)) (λ j. record { operation = p.operation; left = b j; right = c j; result = sym k j }));
+      its_operation = a;
+      its_left = refl;
+      its_right = refl;
+      its_result = refl;
+    }
+read_back Q l i p x left right (Err e) h a b c k = tt

@@ -18,7 +18,7 @@ use Rattle.counts.specs.declared.counts.Counts.{Counts}
 use Rattle.diagrams.specs.declared.memory.Stores.{Stores}
 use Rattle.diagrams.specs.Tests.{contents}
 use Rattle.stored.specs.Stored.{Holdings}
-use Rattle.engine.specs.declared.memo.Entry.{Entry}
+use Rattle.engine.specs.declared.memo.PackedEntry.{PackedEntry}
 use Rattle.engine.specs.State.{state, diagram_of}
 use Rattle.engine.specs.Listed.{AtFront, Tabulates, listed, not_held, too_long}
 use Rattle.engine.specs.Views.{holdings, SoundEngine}
@@ -41,7 +41,7 @@ module _ (was front : List ℕ) (room : ℕ) where
         past = drop-append-le n front (drop room was) (omega (arith, h.within, h.size)) ∙ (ap (λ (l : List ℕ). l ++ drop room was) h.past ∙ (sym (drop-append-le n (take room was) (drop room was) h.within) ∙ ap (λ (l : List ℕ). drop n l) (take-append-drop room was)));
       }
 
-module _ {o : Ops} {m : Stores} {c : Counts} {l : List (Option Entry)} (b : SoundEngine o m c l) {h : Holdings} (t : holdings m c ≡ h) {word : ℕ} where
+module _ {o : Ops} {m : Stores} {c : Counts} {l : List (Option PackedEntry)} (b : SoundEngine o m c l) {h : Holdings} (t : holdings m c ≡ h) {word : ℕ} where
   pub unheld_listed : {r : Result ℕ BenchFault} {f : StoreFault} (was : List ℕ) → IsErrAnd r (λ e. e ≡ Store f) → NoOperand c 0 word f → Tabulates o h.stored word was r was
   unheld_listed {r} was e k =
       subst (λ (g : Holdings). Tabulates o g.stored word was r was) t

@@ -25,7 +25,7 @@ use Rattle.requests.specs.Again.{Free, Again, Remade, RecordRemade}
 use Rattle.requests.proofs.Again.{Settled, leaf_remade, remade, test_remade, narrowed, joined_itself, joined_drop, drop_joined, pass_prefixed}
 use Rattle.requests.proofs.Holding.{two}
 use Rattle.requests.proofs.Unique.{none_some}
-use Rattle.engine.specs.declared.memo.Entry.{Entry}
+use Rattle.engine.specs.declared.memo.PackedEntry.{PackedEntry}
 use Rattle.engine.specs.Built.{numbered_or}
 use Rattle.engine.specs.State.{State, state, diagram_of, Present, Names, Has, Grown}
 use Rattle.engine.specs.Done.{Good, Kept, Done, Entering, NodeRead}
@@ -144,7 +144,7 @@ module _ {o : Ops} (L : Laws o) where
 
   -- a word that takes no operand keeps the memo
   pub word_keeps :
-      {c c' : Counts} {s s' : Stores} (w : PolicyWord) (l : List (Option Entry)) (result : Result Diagram StoreFault) →
+      {c c' : Counts} {s s' : Stores} (w : PolicyWord) (l : List (Option PackedEntry)) (result : Result Diagram StoreFault) →
       Remembers o (here c s) l →
       OnOk result (LeavesFormed o (here c' s')) →
       Done (by_word o w []) c s c' s' result →
@@ -155,7 +155,7 @@ module _ {o : Ops} (L : Laws o) where
   -- a node that is entered after both sides are narrowed keeps it
   pub node_keeps :
       {c0 c1 c2 c3 : Counts} {s0 s1 s2 s3 : Stores} {f n : ℕ} {v w : Diagram} {Z' V Z'' : MDiagram} (a b : Diagram)
-      (l : List (Option Entry)) (result : Result Diagram StoreFault) →
+      (l : List (Option PackedEntry)) (result : Result Diagram StoreFault) →
       Present (here c0 s0) a →
       (d1 : Done (Narrows o (diagram_of (here c0 s0) a) f n) c0 s0 c1 s1 (Ok v)) →
       Z' ≡ diagram_of (here c0 s0) b →

@@ -9,14 +9,20 @@ use Rattle.requests.specs.Rules.{Narrows, Joins, Chooses, Prefixes, Sequences, N
 use Rattle.requests.specs.Claims.{Construction}
 use Rattle.requests.specs.Again.{RecordRemade}
 use Rattle.records.specs.declared.kinds.Diagram.{Diagram}
+use Rattle.records.specs.Words.{word_of}
 use Rattle.engine.specs.declared.memo.Entry.{Entry}
+use Rattle.engine.specs.declared.memo.PackedEntry.{PackedEntry}
 use Rattle.engine.specs.State.{State, Names, Present, Has, diagram_of}
 use Rattle.engine.specs.Cells.{action_at, LeavesFormed}
 use Rattle.engine.specs.declared.memo.Operation.{Operation}
 use Rattle.engine.specs.declared.memo.Operation.TheVariants.{Narrow, Join, Choose, Prefix, Sequence, Not}
 
-abbrev pub Written : List (Option Entry) → Entry → Type 0
-Written l e = (i : ℕ) × (slice_get l i ≡ Some (Some e))
+abbrev pub packed_entry : Entry → PackedEntry
+packed_entry e = record { operation = e.operation; left = word_of e.left; right = word_of e.right; result = word_of e.result }
+
+-- the entry lies in a place of the memo
+abbrev pub Written : List (Option PackedEntry) → Entry → Type 0
+Written l e = (i : ℕ) × (slice_get l i ≡ Some (Some (packed_entry e)))
 
 -- the construction that an entry stands for
 abbrev pub asked_for : Ops → State → Operation → Diagram → Diagram → Construction
@@ -47,7 +53,7 @@ pub record Remembered (o : Ops) (s : State) (e : Entry) : Type 0 where
   pub by_the_rules : asked_for o s e.operation e.left e.right out asks
   pub held : Each (Has s) asks
 
-abbrev pub NothingWritten : List (Option Entry) → Type 0
+abbrev pub NothingWritten : List (Option PackedEntry) → Type 0
 NothingWritten l = (e : Entry) → Written l e → ⊥
 
 -- every node in store is made again of what is in store
@@ -55,13 +61,13 @@ abbrev pub AllRemade : Ops → State → Type 0
 AllRemade o s = (q : Request) → Has s q → RecordRemade o (Has s) q
 
 -- the leaves in store are well-formed, each entry is remembered, and the nodes are made again
-abbrev pub Remembers : Ops → State → List (Option Entry) → Type 0
+abbrev pub Remembers : Ops → State → List (Option PackedEntry) → Type 0
 Remembers o s l = LeavesFormed o s × ((e : Entry) → Written l e → Remembered o s e) × AllRemade o s
 
-abbrev pub Noted : List (Option Entry) → Entry → List (Option Entry) → Type 0
+abbrev pub Noted : List (Option PackedEntry) → Entry → List (Option PackedEntry) → Type 0
 Noted l e l' = (f : Entry) → Written l' f → Written l f ⊎ (f ≡ e)
 
-pub record Recalled (l : List (Option Entry)) (operation : Operation) (left right w : Diagram) : Type 0 where
+pub record Recalled (l : List (Option PackedEntry)) (operation : Operation) (left right w : Diagram) : Type 0 where
   pub entry : Entry
   pub written : Written l entry
   pub its_operation : entry.operation ≡ operation

@@ -7,7 +7,7 @@ use Rattle.diagrams.specs.declared.memory.Stores.{Stores}
 use Rattle.diagrams.specs.Tests.{contents}
 use Rattle.stored.specs.Stored.{Stored, Rooms, Holdings}
 use Rattle.stored.specs.Whole.{AllFormed}
-use Rattle.engine.specs.declared.memo.Entry.{Entry}
+use Rattle.engine.specs.declared.memo.PackedEntry.{PackedEntry}
 use Rattle.engine.specs.State.{state}
 use Rattle.engine.specs.Done.{Good}
 use Rattle.engine.specs.Memo.{Remembers}
@@ -27,7 +27,7 @@ abbrev pub holdings : Stores → Counts → Holdings
 holdings s c = record { stored = state (contents c s); rooms = rooms_in s }
 
 -- sound stores of well-formed diagrams' records, and a memo that is right of them
-pub record SoundEngine (o : Ops) (s : Stores) (c : Counts) (l : List (Option Entry)) : Type 0 where
+pub record SoundEngine (o : Ops) (s : Stores) (c : Counts) (l : List (Option PackedEntry)) : Type 0 where
   pub good : Good c s
   pub formed : AllFormed o (state (contents c s))
   pub remembers : Remembers o (state (contents c s)) l
