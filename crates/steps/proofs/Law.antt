@@ -157,6 +157,18 @@ module _ {o : Ops} (L : Laws o) where
         countable = h.countable;
       }
 
+  -- a bench stays sound
+  pub sound_next : (s s' : State) (c : Call) (r : Reply) → Sound o s → Step o s c r s' → Sound o s'
+  sound_next s s' c r h (refused k) = h
+  sound_next s s' c r h (built {r = d} {asks = a} {w = w} {m = m} b g) = grown_sound s h c d a w m b g
+  sound_next s s' c r h (installed {x = x} {d = d} p k) =
+      record {
+        stores = record { whole = h.stores.whole; formed = h.stores.formed; few = h.stores.few };
+        table = lists_diagram o d s.table_room (diagram_formed o s h.stores x d p) k h.countable;
+        countable = h.countable;
+      }
+  sound_next s s' c r h (sent k j) = h
+
   -- what words stand for
 
   latest_alike : (s : Stored) (w : ℕ) (d : Diagram) → diagram s w ≡ Some d → (es : List (ℕ × Meaning)) → Each (λ e. Stands o s e.0 e.1) es → Alike (weigh o d) (latest es w (weigh o d))
@@ -230,13 +242,10 @@ module _ {o : Ops} (L : Laws o) where
   good_next s s' l l' c r G (installed {x = x} {d = d} p k) n =
       subst (Good o (with_table s (table_words (rows_of d)))) (sym (install_is o s l x l' n))
       (record {
-        sound = record { stores = record { whole = G.sound.stores.whole; formed = G.sound.stores.formed; few = G.sound.stores.few }; table = listed; countable = G.sound.countable };
+        sound = sound_next s (with_table s (table_words (rows_of d))) (Install x) Installed G.sound (installed p k);
         entries = G.entries;
-        in_force = record { table = listed; weighs = stands_alike s l G.entries x d p };
+        in_force = record { table = lists_diagram o d s.table_room (diagram_formed o s G.sound.stores x d p) k G.sound.countable; weighs = stands_alike s l G.entries x d p };
       })
-    where
-      listed : Lists o (table_words (rows_of d))
-      listed = lists_diagram o d s.table_room (diagram_formed o s G.sound.stores x d p) k G.sound.countable
   good_next s s' l l' c r G (sent h k) by_forward = G
 
   -- what a call answers

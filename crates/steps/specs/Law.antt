@@ -18,7 +18,7 @@ pub record Law (o : Ops) (events : List Event) (last : State) (ledger : Ledger) 
   pub refusals : (e : Event) (f : BenchFault) → In e events → (e.reply ≡ Refused f) ↔ Refuses o e.found e.call f
   -- each answer that gave a word, early or late
   pub words : (e : Event) (w : ℕ) → In e events → e.reply ≡ Word w → ItsWord o e w last
-  -- the words of any two answers are equal exactly if the answers stand for the same weights of all frames
+  -- any two are the same word exactly if by their entries, then the latest, they stand for the same weights of all frames
   pub equal_exactly :
       (e f : Event) (v w : ℕ) → In e events → In f events → e.reply ≡ Word v → f.reply ≡ Word w →
       (v ≡ w) ↔ Alike (stands_for o e.left e.after v) (stands_for o f.left f.after w)
