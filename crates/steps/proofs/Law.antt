@@ -32,12 +32,12 @@ use Rattle.steps.specs.States.{State, TableOf, opened}
 use Rattle.steps.specs.Sound.{Lists, Sound}
 use Rattle.steps.specs.Steps.{Call, Install, Forward, Reply, Word, Installed, Written, Refused, Builds, of_policy, of_union, of_sequence, of_star, not_held, full, no_frame, Sends, Step, refused, built, installed, sent, with_stored, with_table}
 use Rattle.steps.specs.Ledgers.{Ledger, no_entries, walk_of, latest, stands_for, entered, Enters, by_compile, by_union, by_sequence, by_star, by_install, by_forward, by_refused, Event, Account, done, next}
-use Rattle.steps.specs.Promises.{ItsWord, Forwards, Keeps, Stays}
+use Rattle.steps.specs.Promises.{ItsWord, Emits, Forwards, Keeps, Stays}
 use Rattle.steps.specs.Law.{Law as Lawful}
 use Rattle.steps.proofs.Stores.{diagram_formed, one_word_for_equal}
 use Rattle.steps.proofs.Building.{same_diagram, policy_made, union_made, sequence_made, star_made, built_formed, built_inside}
 use Rattle.steps.proofs.Meanings.{union_alike, sequence_alike, star_alike}
-use Rattle.steps.proofs.Forwarding.{its_rows, same_frame, frame_values, answer_emits, answer_of, table_emits}
+use Rattle.steps.proofs.Forwarding.{its_rows, same_frame, frame_values, answer_emits, one_list, answer_of, table_emits}
 use Rattle.steps.proofs.Refusals.{exactly, sent_fits, length_sent}
 use Rattle.steps.proofs.Opening.{opened_sound, drop_listed}
 
@@ -274,13 +274,17 @@ module _ {o : Ops} (L : Laws o) where
   forwards s m F v i =
       record {
         emitted = A.0;
-        emits = answer_emits L F.table.listed F.table.formed m F.weighs v i A.0 A.1;
+        emits = emits;
+        one_list = λ xs h. one_list o m v xs A.0 h emits;
         step = λ n h. sent table (sends n h);
         only = λ n r s' h k. only n h (frame_words v) refl r s' k;
       }
     where
       A : (xs : List Sent) × Answer o (rows_of F.table.listed) v xs
       A = answer_of L F.table.listed F.table.formed v i
+
+      emits : Emits o m v A.0
+      emits = answer_emits L F.table.listed F.table.formed m F.weighs v i A.0 A.1
 
       table : TableOf o s.table (rows_of F.table.listed)
       table = record { legal = F.table.legal; words = F.table.words }

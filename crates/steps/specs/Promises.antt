@@ -32,6 +32,7 @@ pub record Emits (o : Ops) (m : Meaning) (v : Frame) (sent : List Sent) : Type 0
 pub record Forwards (o : Ops) (s : State) (m : Meaning) (v : Frame) : Type 0 where
   pub emitted : List Sent
   pub emits : Emits o m v emitted
+  pub one_list : (others : List Sent) → Emits o m v others → others ≡ emitted
   pub step : (n : ℕ) → sent_length * length emitted ≤ n → Step o s (Forward (frame_words v) n) (Written (flat_map sent_words emitted)) s
   -- and no other step is
   pub only :
