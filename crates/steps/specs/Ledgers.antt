@@ -16,7 +16,7 @@ pub record Ledger : Type 0 where
   pub entries : List (ℕ × Meaning)
   pub in_force : Meaning
 
--- as a bench is opened: nothing is emitted
+-- as a bench is opened: no word has an entry, and until an install nothing is emitted
 abbrev pub no_entries : Ops → Ledger
 no_entries o = record { entries = []; in_force = λ s t. o.zero }
 
