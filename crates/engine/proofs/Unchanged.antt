@@ -1,8 +1,7 @@
 -- Constructions that give an operand back and add nothing, and what they rest on: nodes in store are made again.
-use Rattle.std.proofs.Common.{◌≡◌, ℕ, ◌<◌, ◌≤◌, ◌≢◌, ◌⊎◌, Bool, true, false, true≢false, List, [], ◌∷◌, ◌++◌, get_or, None, Some, Option, Ok, Err, Result, OnOk, sym, refl, ap, ap₂, ◌∙◌, subst, subst₂, inl, inr, arith}
+use Rattle.std.proofs.Common.{◌≡◌, ℕ, ◌≤◌, ◌⊎◌, Bool, true, false, true≢false, List, [], ◌∷◌, get_or, None, Some, Option, Ok, Err, Result, OnOk, sym, ap, ap₂, ◌∙◌, subst, subst₂, inl, inr, arith}
 use Rattle.weights.specs.Weights.{Ops, Laws}
 use Rattle.format.specs.Actions.{keep_all}
-use Rattle.format.specs.Policy.Policy.{Drop, Pass, Test, Set, Cost}
 use Rattle.format.specs.declared.settings.PolicyWord.{PolicyWord}
 use Rattle.format.specs.declared.settings.Amount.{Amount}
 use Rattle.meaning.specs.Leaves.{Action as MAction, Cell as MCell, Each, LeafFormed}
@@ -19,7 +18,7 @@ use Rattle.counts.specs.declared.counts.Counts.{Counts}
 use Rattle.diagrams.specs.declared.memory.Stores.{Stores}
 use Rattle.diagrams.specs.Tests.{contents}
 use Rattle.requests.specs.Requests.{Request, node, leaf_records}
-use Rattle.requests.specs.Rules.{Narrows, Makes, Prefixes, Joins, joins_leaves, joins_split, Negates, negates_drop, negates_pass, negates_other, pass_cells, Compiled, compiled_drop, compiled_pass, compiled_test, compiled_set, compiled_cost}
+use Rattle.requests.specs.Rules.{Narrows, Makes, Prefixes, Joins, joins_leaves, joins_split, Negates, negates_drop, negates_pass, negates_other, pass_cells, compiled_drop, compiled_pass, compiled_test, compiled_set, compiled_cost}
 use Rattle.requests.specs.Claims.{Construction}
 use Rattle.requests.specs.Again.{Free, Again, Remade, RecordRemade}
 use Rattle.requests.proofs.Again.{Settled, leaf_remade, remade, test_remade, narrowed, joined_itself, joined_drop, drop_joined, pass_prefixed}
@@ -28,7 +27,7 @@ use Rattle.requests.proofs.Unique.{none_some}
 use Rattle.engine.specs.declared.memo.PackedEntry.{PackedEntry}
 use Rattle.engine.specs.Built.{numbered_or}
 use Rattle.engine.specs.State.{State, state, diagram_of, Present, Names, Has, Grown}
-use Rattle.engine.specs.Done.{Good, Kept, Done, Entering, NodeRead}
+use Rattle.engine.specs.Done.{Good, Done, Entering, NodeRead}
 use Rattle.engine.specs.Leaves.{LeafPresent, leaf_at, SetsTo, Stays, IsDrop}
 use Rattle.engine.specs.Cells.{LeavesFormed, number_of, CellRead, action_at}
 use Rattle.engine.specs.Memo.{Remembers, AllRemade}

@@ -1,4 +1,3 @@
-use Rattle.std.proofs.Common.{sym, ap, subst}
 use Rattle.std.proofs.lemmas.Bool.Decides.{Decides-not}
 use Rattle.engine.proofs.Negated.{denied}
 use Rattle.engine.proofs.NarrowRules.{leaf_word}

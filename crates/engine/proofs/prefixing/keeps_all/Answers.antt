@@ -1,7 +1,6 @@
 use Rattle.std.proofs.Common.{sym, ap, ◌∙◌}
 use Rattle.actions.specs.declared.actions.Action.{Action}
 use Rattle.actions.proofs.Alike.{actions_alike}
-use Rattle.engine.proofs.Negated.{denied}
 use Rattle.engine.proofs.Reading.{action_counted}
 use Rattle.engine.proofs.prefixing.keeps_all.Goals as goal
 

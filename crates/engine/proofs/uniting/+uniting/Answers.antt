@@ -162,8 +162,8 @@ join-returns-then-eq-clause-done g t c =
     let r = c.requires in
     let L = g.met.K.WeightKind.lawful in
     elim c.then-eq.branch [
-      join-then-eq-via-then-eq w ↦ one_operand L r.good r.memo.0 r.memo.2 c.args.left c.args.right r.left ((diagrams_told _ _).0 (sym w.if-eq.ensures))
-    | join-then-eq-via-else-eq+then-is_drop w ↦ drop_right L r.good r.memo.0 r.memo.2 c.args.left c.args.right r.left (w.is_drop.ensures.0 w.if-is_drop.true)
+      | join-then-eq-via-then-eq w ↦ one_operand L r.good r.memo.0 r.memo.2 c.args.left c.args.right r.left ((diagrams_told _ _).0 (sym w.if-eq.ensures))
+      | join-then-eq-via-else-eq+then-is_drop w ↦ drop_right L r.good r.memo.0 r.memo.2 c.args.left c.args.right r.left (w.is_drop.ensures.0 w.if-is_drop.true)
     ]
 
 pub join-returns-then-is_drop-2-clause-done : goal.join-returns-then-is_drop-2-clause-done
