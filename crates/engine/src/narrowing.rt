@@ -34,7 +34,7 @@ fn leaf_changes(stores: &Stores<'_>, counts: &Counts, first: Amount, test: Setti
 }
 
 // Whether a diagram is a leaf in which nothing changes there.
-pub fn stays(stores: &Stores<'_>, counts: &Counts, diagram: Diagram, test: Setting) -> bool
+pub(crate) fn stays(stores: &Stores<'_>, counts: &Counts, diagram: Diagram, test: Setting) -> bool
     requires good { Good counts.now stores.now }
     requires present { Present (state (contents counts.now stores.now)) diagram }
     ensures { Decides result (Stays test.field test.value (diagram_of (state (contents counts.now stores.now)) diagram)) }

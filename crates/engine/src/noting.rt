@@ -32,6 +32,7 @@ pub fn narrow<K: WeightKind>(
     ensures kept { Kept counts.old stores.old counts.new stores.new }
     ensures memo { OnOk result (Remembers K.WeightKind.ops (state (contents counts.new stores.new)) memo.new.entries) }
 {
+    // Then all that it asks for is in store.
     if stays(stores, counts, diagram, test) {
         return Ok(diagram);
     }
@@ -73,6 +74,7 @@ fn narrow_node<K: WeightKind>(
     if root.test.field != test.field {
         let yes = narrow::<K>(stores, counts, memo, root.yes, test)?;
         let no = narrow::<K>(stores, counts, memo, root.no, test)?;
+        // A node in store, made again, asks for nothing new.
         if yes == root.yes && no == root.no {
             return Ok(diagram);
         }

@@ -190,6 +190,7 @@ pub fn prefix<K: WeightKind>(
     ensures kept { Kept counts.old stores.old counts.new stores.new }
     ensures memo { OnOk result (Remembers K.WeightKind.ops (state (contents counts.new stores.new)) memo.new.entries) }
 {
+    // Then all that it asks for is in store.
     if keeps_all::<K>(stores, counts, action, weight) {
         return Ok(diagram);
     }

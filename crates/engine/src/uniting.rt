@@ -54,6 +54,7 @@ pub fn join<K: WeightKind>(
     ensures kept { Kept counts.old stores.old counts.new stores.new }
     ensures memo { OnOk result (Remembers K.WeightKind.ops (state (contents counts.new stores.new)) memo.new.entries) }
 {
+    // In these cases all that the union asks for is in store.
     if left == right || is_drop(right) {
         return Ok(left);
     }

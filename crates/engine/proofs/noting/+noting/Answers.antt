@@ -143,14 +143,12 @@ make-returns-clause-memo g t c =
     let d = c.in_ok-narrowed_yes.ensures.done in
     let i = itself (here c.args.counts.now c.args.stores.now) c.args.no c.requires.no in
     let e = same_diagram d.made.added.grown c.args.no c.requires.no in
-    let k = c.in_ok-narrowed_yes.ensures.kept in
     let d2 = c.in_ok-narrowed_no.ensures.done in
-    let k2 = c.in_ok-narrowed_no.ensures.kept in
     node_keeps g.met.K.WeightKind.lawful c.args.yes c.args.no _ _ c.requires.yes d e d2
     (λ h. never _ c.if-eq.ensures ((diagrams_told _ _).1 h))
     c.in_ok-narrowed_no.ensures.memo
-    (make_yes c.requires.good i d k e d2 k2).stands
-    (make_no c.requires.good i d k e d2 k2).stands
+    (make_yes c.requires.good i d c.in_ok-narrowed_yes.ensures.kept e d2 c.in_ok-narrowed_no.ensures.kept).stands
+    (make_no c.requires.good i d c.in_ok-narrowed_yes.ensures.kept e d2 c.in_ok-narrowed_no.ensures.kept).stands
     c.enter_node.ensures.done
     (node_leaves _ c.in_ok-narrowed_no.ensures.memo.0 c.enter_node.ensures.done)
 
@@ -171,15 +169,13 @@ pub narrow_node-returns-then-eq-2-clause-done : goal.narrow_node-returns-then-eq
 narrow_node-returns-then-eq-2-clause-done g t c =
     let r = c.node-root.ensures in
     let d1 = c.in_ok-yes.ensures.done in
-    let k1 = c.in_ok-yes.ensures.kept in
     let d2 = c.in_ok-no.ensures.done in
-    let k2 = c.in_ok-no.ensures.kept in
     let named = names_grown d2.made.added.grown (names_grown d1.made.added.grown (node_named c.requires.present c.in-Branch.is r)) in
     let yes = side_stays d1.made.added.grown r.yes_present ((diagrams_told _ _).0 (sym c.if-eq.ensures)) d1.made.names in
     let no = side_stays d2.made.added.grown (present_grown d1.made.added.grown c.node-root.result.no r.no_present) ((diagrams_told _ _).0 (sym c.if-eq-2.ensures)) d2.made.names in
     let before = same_diagram d1.made.added.grown c.node-root.result.no r.no_present in
     rw c.in-Branch.is
-    (narrow_makes _ c.requires.good c.args.test.field c.args.test.value r c.if-root-test.true d1 k1 d2 k2 yes (sym before ∙ no)
+    (narrow_makes _ c.requires.good c.args.test.field c.args.test.value r c.if-root-test.true d1 c.in_ok-yes.ensures.kept d2 c.in_ok-no.ensures.kept yes (sym before ∙ no)
     (node_again d2.made.good c.in_ok-no.ensures.memo.2 named))
 
 pub narrow_node-returns-then-eq-2-clause-kept : goal.narrow_node-returns-then-eq-2-clause-kept
