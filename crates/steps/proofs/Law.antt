@@ -119,7 +119,7 @@ step_keeps o s c r s' (built {m = m} b g) = keeps_of s (with_stored s m) g.adds.
 step_keeps o s c r s' (installed {d = d} p k) = keeps_same s (with_table s (table_words (rows_of d))) refl
 step_keeps o s c r s' (sent h k) = keeps_same s s refl
 
-pub install_is : (o : Ops) (s : State) (l : Ledger) (x : ℕ) (l' : Ledger) → Enters o s l (Install x) Installed l' → l' ≡ record { entries = l.entries; in_force = stands_for o s l x }
+pub install_is : (o : Ops) (s : State) (l : Ledger) (x : ℕ) {n : ℕ} (l' : Ledger) → Enters o s l (Install x) (Installed n) l' → l' ≡ record { entries = l.entries; in_force = stands_for o s l x }
 install_is o s l x l' by_install = refl
 
 own_entry : (w : ℕ) (m : Meaning) (es : List (ℕ × Meaning)) (x : Meaning) → Alike m (latest ((w, m) ∷ es) w x)
@@ -131,13 +131,13 @@ own_entry w m es x = go (decide w w)
 
 abbrev word_in : Reply → ℕ
 word_in (Word w) = w
-word_in Installed = 0
+word_in (Installed n) = 0
 word_in (Written ws) = 0
 word_in (Refused f) = 0
 
 abbrev is_word : Reply → Bool
 is_word (Word w) = true
-is_word Installed = false
+is_word (Installed n) = false
 is_word (Written ws) = false
 is_word (Refused f) = false
 
@@ -242,7 +242,7 @@ module _ {o : Ops} (L : Laws o) where
   good_next s s' l l' c r G (installed {x = x} {d = d} p k) n =
       subst (Good o (with_table s (table_words (rows_of d)))) (sym (install_is o s l x l' n))
       (record {
-        sound = sound_next s (with_table s (table_words (rows_of d))) (Install x) Installed G.sound (installed p k);
+        sound = sound_next s (with_table s (table_words (rows_of d))) (Install x) (Installed (length (table_words (rows_of d)))) G.sound (installed p k);
         entries = G.entries;
         in_force = record { table = lists_diagram o d s.table_room (diagram_formed o s G.sound.stores x d p) k G.sound.countable; weighs = stands_alike s l G.entries x d p };
       })
@@ -265,7 +265,7 @@ module _ {o : Ops} (L : Laws o) where
       weighs =
           subst (λ (x : Ledger). Alike (weigh o d) (stands_for o (with_stored s t) x v)) (sym E.is)
           (alike_trans (weigh o d) E.meaning (stands_for o (with_stored s t) (entered v E.meaning l) v) E.weighs (own_entry v E.meaning l.entries (walk_of o (diagram t v))))
-  its_word s m last l k c r G (installed p j) n q w e = absurd (no_word Installed refl w e)
+  its_word s m last l k c r G (installed {d = d} p j) n q w e = absurd (no_word (Installed (length (table_words (rows_of d)))) refl w e)
   its_word s m last l k c r G (sent {out = out} h j) n q w e = absurd (no_word (Written out) refl w e)
 
   -- what is forwarded

@@ -174,7 +174,7 @@ module _ {o : Ops} (L : Laws o) (s : State) (S : Sound o s) where
     where
       fit : (d : Diagram) → diagram s.stored x ≡ Some d → (s.table_room < length (table_words (rows_of d))) ⊎ (length (table_words (rows_of d)) ≤ s.table_room) → Going o s (Install x)
       fit d p (inl l) = (Refused (Table table.Full), s, refused (table_full p l))
-      fit d p (inr l) = (Installed, with_table s (table_words (rows_of d)), installed p l)
+      fit d p (inr l) = (Installed (length (table_words (rows_of d))), with_table s (table_words (rows_of d)), installed p l)
 
       go : ((d : Diagram) × (diagram s.stored x ≡ Some d)) ⊎ (diagram s.stored x ≡ None) → Going o s (Install x)
       go (inr p) = unheld (Install x) 0 (install_operand p)

@@ -146,13 +146,13 @@ module _ {o : Ops} (L : Laws o) where
 
 abbrev is_refused : Reply → Bool
 is_refused (Word w) = false
-is_refused Installed = false
+is_refused (Installed n) = false
 is_refused (Written ws) = false
 is_refused (Refused f) = true
 
 abbrev fault_of : Reply → BenchFault
 fault_of (Word w) = Store Full
-fault_of Installed = Store Full
+fault_of (Installed n) = Store Full
 fault_of (Written ws) = Store Full
 fault_of (Refused f) = f
 
@@ -162,7 +162,7 @@ not_so r f e p = true≢false (sym (ap is_refused p) ∙ e)
 refused_for : (o : Ops) (s : State) (c : Call) (r : Reply) (s' : State) (f : BenchFault) → Step o s c r s' → r ≡ Refused f → Refuses o s c f
 refused_for o s c r s' f (refused h) e = subst (Refuses o s c) (ap fault_of e) h
 refused_for o s c r s' f (built {w = w} b g) e = absurd (not_so (Word w) f refl e)
-refused_for o s c r s' f (installed p l) e = absurd (not_so Installed f refl e)
+refused_for o s c r s' f (installed {d = d} p l) e = absurd (not_so (Installed (length (table_words (rows_of d)))) f refl e)
 refused_for o s c r s' f (sent {out = out} h k) e = absurd (not_so (Written out) f refl e)
 
 -- a call is refused exactly where a condition holds for it

@@ -43,7 +43,7 @@ pub data Enters (o : Ops) (s : State) (l : Ledger) : Call → Reply → Ledger �
   by_union : {x y w : ℕ} {m : Meaning} → IsUnion o (stands_for o s l x) (stands_for o s l y) m → Enters o s l (Union x y) (Word w) (entered w m l)
   by_sequence : {x y w : ℕ} {m : Meaning} → IsSequence o (stands_for o s l x) (stands_for o s l y) m → Enters o s l (Sequence x y) (Word w) (entered w m l)
   by_star : {x w : ℕ} {m : Meaning} → IsStar o (stands_for o s l x) m → Enters o s l (Star x) (Word w) (entered w m l)
-  by_install : {x : ℕ} → Enters o s l (Install x) Installed (record { entries = l.entries; in_force = stands_for o s l x })
+  by_install : {x n : ℕ} → Enters o s l (Install x) (Installed n) (record { entries = l.entries; in_force = stands_for o s l x })
   by_forward : {ws out : List ℕ} {n : ℕ} → Enters o s l (Forward ws n) (Written out) l
   by_refused : {c : Call} {f : BenchFault} → Enters o s l c (Refused f) l
 

@@ -21,7 +21,8 @@ use Rattle.steps.specs.States.{State, TableOf}
 
 pub data Reply : Type 0 where
   Word : ℕ → Reply
-  Installed : Reply
+  -- how many words the table has
+  Installed : ℕ → Reply
   Written : List ℕ → Reply
   Refused : BenchFault → Reply
 
@@ -61,7 +62,7 @@ pub data Step (o : Ops) (s : State) : Call → Reply → State → Type 0 where
       {x : ℕ} {d : Diagram} →
       diagram s.stored x ≡ Some d →
       length (table_words (rows_of d)) ≤ s.table_room →
-      Step o s (Install x) Installed (with_table s (table_words (rows_of d)))
+      Step o s (Install x) (Installed (length (table_words (rows_of d)))) (with_table s (table_words (rows_of d)))
   sent : {ws : List ℕ} {n : ℕ} {out : List ℕ} {rows : List Row} → TableOf o s.table rows → Sends o rows ws n out → Step o s (Forward ws n) (Written out) s
 
 -- the calls get these replies one after another, the first call first
