@@ -1,0 +1,6 @@
+pub mod Sizes
+pub mod Views
+pub mod Replies
+pub mod Texts
+pub mod Reading
+pub mod Installs

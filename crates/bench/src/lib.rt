@@ -1,0 +1,11 @@
+// A bench: stores and the table in force in lent memory, with six calls, each of which does all of its work or none.
+#![tactic(auto)]
+
+mod bench;
+mod installing;
+mod judged;
+mod judging;
+
+pub use bench::Bench;
+pub use judged::{Judged, Judgement};
+pub use judging::judge;
