@@ -31,14 +31,14 @@ module _ {o : Ops} {s : Stored} {word : ℕ} {was : List ℕ} (small : length wa
       let w : n ≤ length is = omega (arith, a.within, a.size) in
       (w, (rows_of d, rows_legal o d is n f (omega (arith, small, a.size)) w a.table, a.table))
 
-  pub now_in_force : {A : Type 0} {a : A} (m : ℕ) {n : ℕ} {is : List ℕ} → Tabulates o s word was (Ok n) is → Installs o s word was m (Ok a) is n
+  pub now_in_force : (m : ℕ) {n : ℕ} {is : List ℕ} → Tabulates o s word was (Ok n) is → Installs o s word was m (Ok n) is n
   now_in_force m (was_listed e f a) = in_force e f a.size (omega (arith, a.within, a.size)) a.table
 
-  left_in_force : {A : Type 0} (r : Result A BenchFault) (m : ℕ) {g : BenchFault} {is : List ℕ} → r ≡ Err g → Tabulates o s word was (Err g) is → Installs o s word was m r is m
-  left_in_force {A} r m i (was_not_held e) = subst (λ (x : Result A BenchFault). Installs o s word was m x was m) (sym i) (unheld e)
-  left_in_force {A} r m i (was_too_long {d = d} e l) = subst (λ (x : Result A BenchFault). Installs o s word was m x was m) (sym i) (too_long e (omega (arith, l, small)))
+  left_in_force : (r : Result ℕ BenchFault) (m : ℕ) {g : BenchFault} {is : List ℕ} → r ≡ Err g → Tabulates o s word was (Err g) is → Installs o s word was m r is m
+  left_in_force r m i (was_not_held e) = subst (λ (x : Result ℕ BenchFault). Installs o s word was m x was m) (sym i) (unheld e)
+  left_in_force r m i (was_too_long {d = d} e l) = subst (λ (x : Result ℕ BenchFault). Installs o s word was m x was m) (sym i) (too_long e (omega (arith, l, small)))
 
-  pub still_in_force : {A : Type 0} (r : Result A BenchFault) (m : ℕ) {g : BenchFault} {is : List ℕ} → IsErrAnd r (λ e. e ≡ g) → Tabulates o s word was (Err g) is → Installs o s word was m r is m
+  pub still_in_force : (r : Result ℕ BenchFault) (m : ℕ) {g : BenchFault} {is : List ℕ} → IsErrAnd r (λ e. e ≡ g) → Tabulates o s word was (Err g) is → Installs o s word was m r is m
   still_in_force r m i t = left_in_force r m (passed_on i) t
 
 pub unchanged : {o : Ops} {s : Stored} {word : ℕ} {was : List ℕ} {g : BenchFault} {is : List ℕ} → Tabulates o s word was (Err g) is → is ≡ was
@@ -48,7 +48,7 @@ unchanged (was_too_long e l) = refl
 -- the bench afterwards
 
 module _ {o : Ops} {s : Stored} {word : ℕ} where
-  pub table_sound : {A : Type 0} {ws is : List ℕ} {n k : ℕ} {r : Result A BenchFault} → SoundTable o ws n → Installs o s word ws n r is k → SoundTable o is k
+  pub table_sound : {ws is : List ℕ} {n k : ℕ} {r : Result ℕ BenchFault} → SoundTable o ws n → Installs o s word ws n r is k → SoundTable o is k
   table_sound {ws = ws} {is = is} {k = k} t (in_force {d = d} e f z w b) =
       record {
         lists = record { listed = d; formed = f; legal = rows_legal o d is k f (omega (arith, t.countable, z)) w b; words = b };
@@ -58,12 +58,16 @@ module _ {o : Ops} {s : Stored} {word : ℕ} where
   table_sound t (too_long e l) = t
 
 module _ {o : Ops} {h : Holdings} {word : ℕ} where
-  install_step : {A : Type 0} {ws is : List ℕ} {n k : ℕ} {r : Result A BenchFault} → Installs o h.stored word ws n r is k → Step o (state_of h ws n) (Install word) (install_reply r) (state_of h is k)
+  install_step : {ws is : List ℕ} {n k : ℕ} {r : Result ℕ BenchFault} → Installs o h.stored word ws n r is k → Step o (state_of h ws n) (Install word) (install_reply r) (state_of h is k)
   install_step {ws = ws} {is = is} {n = n} {k = k} (in_force {d = d} e f s w b) =
-      subst (λ (t : State). Step o (state_of h ws n) (Install word) Installed t) (λ i. record { stored = h.stored; rooms = h.rooms; table = sym b i; table_room = sym s i })
-      (installed e (omega (arith, put_room d is k w b, s)))
+      subst (λ (m : ℕ). Step o (state_of h ws n) (Install word) (Installed m) (state_of h is k)) count
+      (subst (λ (t : State). Step o (state_of h ws n) (Install word) (Installed (length (table_words (rows_of d)))) t) (λ i. record { stored = h.stored; rooms = h.rooms; table = sym b i; table_room = sym s i })
+      (installed e (omega (arith, put_room d is k w b, s))))
+    where
+      count : length (table_words (rows_of d)) ≡ k
+      count = let a = ap length b in let c = length-take k is in omega (arith, a, c, w)
   install_step (unheld e) = refused (not_held (install_operand e))
   install_step (too_long e l) = refused (table_full e l)
 
-  pub installs : {A : Type 0} {ws is : List ℕ} {n k : ℕ} {r : Result A BenchFault} {s : State} → state_of h ws n ≡ s → Installs o h.stored word ws n r is k → Step o s (Install word) (install_reply r) (state_of h is k)
+  pub installs : {ws is : List ℕ} {n k : ℕ} {r : Result ℕ BenchFault} {s : State} → state_of h ws n ≡ s → Installs o h.stored word ws n r is k → Step o s (Install word) (install_reply r) (state_of h is k)
   installs {is = is} {k = k} {r = r} e i = subst (λ (t : State). Step o t (Install word) (install_reply r) (state_of h is k)) e (install_step i)

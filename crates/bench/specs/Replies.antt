@@ -9,8 +9,8 @@ abbrev pub word_reply : Result ℕ BenchFault → Reply
 word_reply (Ok w) = Word w
 word_reply (Err f) = Refused f
 
-abbrev pub install_reply : {A : Type 0} → Result A BenchFault → Reply
-install_reply (Ok _) = Installed
+abbrev pub install_reply : Result ℕ BenchFault → Reply
+install_reply (Ok n) = Installed n
 install_reply (Err f) = Refused f
 
 -- the words written into memory

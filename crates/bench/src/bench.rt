@@ -97,8 +97,8 @@ impl<K: WeightKind> Bench<'_, K> {
         Ok(self.engine.star(operand)?)
     }
 
-    // Puts the table of a diagram in force.
-    pub fn install(&mut self, word: u32) -> Result<(), BenchFault>
+    // Puts the table of a diagram in force. The answer is how many words it has.
+    pub fn install(&mut self, word: u32) -> Result<usize, BenchFault>
         ensures { Step K.WeightKind.ops self.old (Install word) (install_reply result) self.new }
     {
         put_in_force(&self.engine, word, &mut self.table)
