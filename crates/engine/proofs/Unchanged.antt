@@ -25,7 +25,6 @@ use Rattle.requests.proofs.Again.{Settled, leaf_remade, remade, test_remade, nar
 use Rattle.requests.proofs.Holding.{two}
 use Rattle.requests.proofs.Unique.{none_some}
 use Rattle.engine.specs.declared.memo.PackedEntry.{PackedEntry}
-use Rattle.engine.specs.Built.{numbered_or}
 use Rattle.engine.specs.State.{State, state, diagram_of, Present, Names, Has, Grown}
 use Rattle.engine.specs.Done.{Good, Done, Entering, NodeRead}
 use Rattle.engine.specs.Leaves.{LeafPresent, leaf_at, SetsTo, Stays, IsDrop}
