@@ -2,9 +2,9 @@
 #![tactic(auto)]
 
 use format::TEXT_LIMIT;
-use reports::report;
+use reports::{RECORD_LIMIT, report};
 use std::io;
-use std::io::Read;
+use std::io::{ErrorKind, Read, Write};
 
 fn main(rt: HostRuntime) -> io::Result<()> {
     let mut text = Vec::new(rt.alloc());
@@ -12,6 +12,9 @@ fn main(rt: HostRuntime) -> io::Result<()> {
     rt.stdin()
         .take(TEXT_LIMIT as u64 + 1)
         .read_to_end(&mut text)?;
-    let record = report(rt.alloc(), &text)?;
-    rt.print(record)
+    let mut record = [0; RECORD_LIMIT];
+    let Ok(length) = report(&text, &mut record) else {
+        return Err(io::Error::from(ErrorKind::OutOfMemory));
+    };
+    rt.stdout().write_all(&record[..length])
 }
