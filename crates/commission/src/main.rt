@@ -2,7 +2,7 @@
 #![tactic(auto)]
 
 use format::TEXT_LIMIT;
-use reports::{RECORD_LIMIT, report};
+use reports::report;
 use std::io;
 use std::io::{ErrorKind, Read, Write};
 
@@ -12,7 +12,9 @@ fn main(rt: HostRuntime) -> io::Result<()> {
     rt.stdin()
         .take(TEXT_LIMIT as u64 + 1)
         .read_to_end(&mut text)?;
-    let mut record = [0; RECORD_LIMIT];
+    // Without memory a report says how much it needs.
+    let (Ok(needed) | Err(needed)) = report(&text, &mut []);
+    let mut record = vec![in rt.alloc(); 0; needed]?;
     let Ok(length) = report(&text, &mut record) else {
         return Err(io::Error::from(ErrorKind::OutOfMemory));
     };

@@ -13,9 +13,6 @@ use numerals::{Decimal, Hex};
 use pages::{Page, Print, print_each};
 use policy::read_policy;
 
-// No record of a policy text has more bytes than this.
-pub const RECORD_LIMIT: usize = 8192;
-
 // What the kind of this number is called.
 fn kind_name(number: u32) -> &'static str
     ensures { result.now ≡ kind_name number }
