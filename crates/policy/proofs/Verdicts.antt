@@ -1,5 +1,5 @@
 -- A text has one verdict, whatever memory it is read into.
-use Rattle.std.proofs.Common.{◌≡◌, ℕ, List, [], length, take, replicate, MatchResult, Ok, Err, Result, sym, refl, ap, ◌∙◌, subst, arith}
+use Rattle.std.proofs.Common.{◌≡◌, ℕ, List, [], length, take, MatchResult, Ok, Err, Result, sym, refl, ap, ◌∙◌, subst, arith}
 use Rattle.std.proofs.lemmas.List.{drop_all, take_all}
 use Rattle.faults.specs.declared.layers.CompileFault.{CompileFault}
 use Rattle.faults.specs.declared.layers.CompileFault.TheVariants.{Text, Check}

@@ -1,5 +1,5 @@
 -- The words of a file, four bytes at a time.
-use Rattle.std.proofs.Common.{◌≡◌, ℕ, ◌<◌, ◌≤◌, min, List, [], ◌∷◌, ◌++◌, length, refl, ap, ◌∙◌, arith}
+use Rattle.std.proofs.Common.{◌≡◌, ℕ, ◌<◌, ◌≤◌, min, List, [], ◌∷◌, ◌++◌, length, ap, arith}
 use Rattle.std.specs.Int.{div_ceil}
 use Rattle.replays.specs.Bytes.{words_of}
 

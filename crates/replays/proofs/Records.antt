@@ -6,7 +6,7 @@ use Rattle.faults.specs.declared.layers.TableFault.{TableFault}
 use Rattle.faults.specs.declared.layers.TableFault.TheVariants.{Illegal, Full}
 use Rattle.weights.specs.Weights.{Ops}
 use Rattle.tables.specs.Checking.{Stops}
-use Rattle.tables.specs.Rows.{Row, LegalTable}
+use Rattle.tables.specs.Rows.{LegalTable}
 use Rattle.tables.specs.Emits.{sent_length}
 use Rattle.lines.specs.Lines.{table_lines}
 use Rattle.pages.specs.declared.page.Page.{Page}

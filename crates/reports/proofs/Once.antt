@@ -1,5 +1,5 @@
 -- A text has one record, and it leaves one memory.
-use Rattle.std.proofs.Common.{◌≡◌, ℕ, List, Result, ap, sym, refl, ◌∙◌, subst}
+use Rattle.std.proofs.Common.{◌≡◌, ℕ, List, Result, ap, subst}
 use Rattle.faults.specs.Lines.{refused_line}
 use Rattle.faults.specs.Shows.{compile_shown}
 use Rattle.policy.proofs.Verdicts.{one_reading, read_or_not, one_fault}

@@ -1,7 +1,6 @@
-use Rattle.std.proofs.Common.{◌≡◌, ◌≤◌, ◌+◌, min, length, ℕ, Result, Ok, Err, refl, sym, ◌∙◌, subst, arith}
+use Rattle.std.proofs.Common.{◌≡◌, ◌≤◌, min, length, ℕ, Ok, Err, refl, sym, ◌∙◌, subst, arith}
 use Rattle.pages.specs.Pages.{most}
 use Rattle.pages.proofs.Saying.{printed, printed_within}
-use Rattle.replays.specs.declared.short.Short.{Short}
 use Rattle.replays.specs.declared.short.Short.TheVariants.{Words}
 use Rattle.replays.specs.Memory.{enough, Replayed}
 use Rattle.replays.specs.Replays.{kind_ops}
