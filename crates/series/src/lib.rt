@@ -12,6 +12,8 @@ mod answering;
 mod calls;
 mod ended;
 mod fault;
+#[cfg(test)]
+mod tests;
 
 use actions::Action;
 use answering::answer_all;
