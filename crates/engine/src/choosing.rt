@@ -49,7 +49,7 @@ fn least_test(
 
 // The yes side where a field holds a value, else the no side, remembered or made.
 #[cycle(choosing)]
-pub fn choose<K: WeightKind>(
+pub(crate) fn choose<K: WeightKind>(
     stores: &mut Stores<'_>,
     counts: &mut Counts,
     memo: &mut Memo,

@@ -190,7 +190,7 @@ fn apply<K: WeightKind>(
 }
 
 // The diagram of a policy.
-pub fn compile<K: WeightKind>(
+pub(crate) fn compile<K: WeightKind>(
     stores: &mut Stores<'_>,
     counts: &mut Counts,
     memo: &mut Memo,

@@ -17,7 +17,7 @@ use format::Amount;
 use records::{Cell, Diagram, Node};
 
 // The node under a number.
-pub fn node(stores: &Stores<'_>, counts: &Counts, number: Amount) -> Node
+pub(crate) fn node(stores: &Stores<'_>, counts: &Counts, number: Amount) -> Node
     requires good { SoundStores counts.now stores.now }
     requires held { (0 < number.number) × (number.number ≤ counts.now.nodes) }
     ensures { NodeRead (state (contents counts.now stores.now)) number result }
@@ -26,7 +26,7 @@ pub fn node(stores: &Stores<'_>, counts: &Counts, number: Amount) -> Node
 }
 
 // Enters a node.
-pub fn enter_node(
+pub(crate) fn enter_node(
     stores: &mut Stores<'_>,
     counts: &mut Counts,
     entry: Node,
@@ -42,7 +42,7 @@ pub fn enter_node(
 }
 
 // The cell under a number.
-pub fn cell(stores: &Stores<'_>, counts: &Counts, number: Amount) -> Cell
+pub(crate) fn cell(stores: &Stores<'_>, counts: &Counts, number: Amount) -> Cell
     requires good { SoundStores counts.now stores.now }
     requires held { (0 < number.number) × (number.number ≤ counts.now.cells) }
     ensures { CellRead (state (contents counts.now stores.now)) number.number result }
@@ -51,7 +51,7 @@ pub fn cell(stores: &Stores<'_>, counts: &Counts, number: Amount) -> Cell
 }
 
 // The action under a number.
-pub fn action(stores: &Stores<'_>, counts: &Counts, number: Amount) -> Action
+pub(crate) fn action(stores: &Stores<'_>, counts: &Counts, number: Amount) -> Action
     requires good { SoundStores counts.now stores.now }
     requires held { (0 < number.number) × (number.number ≤ counts.now.actions) }
     ensures { result.sets ≡ action_at (state (contents counts.now stores.now)) number.number }
@@ -60,7 +60,7 @@ pub fn action(stores: &Stores<'_>, counts: &Counts, number: Amount) -> Action
 }
 
 // Enters an action.
-pub fn enter_action(
+pub(crate) fn enter_action(
     stores: &mut Stores<'_>,
     counts: &mut Counts,
     entry: Action,
@@ -73,7 +73,7 @@ pub fn enter_action(
 }
 
 // Enters a cell.
-pub fn enter_cell(
+pub(crate) fn enter_cell(
     stores: &mut Stores<'_>,
     counts: &mut Counts,
     entry: Cell,

@@ -39,7 +39,7 @@ pub(crate) fn at<K: WeightKind>(
 
 // The union of two diagrams, remembered or made.
 #[cycle(joining)]
-pub fn join<K: WeightKind>(
+pub(crate) fn join<K: WeightKind>(
     stores: &mut Stores<'_>,
     counts: &mut Counts,
     memo: &mut Memo,

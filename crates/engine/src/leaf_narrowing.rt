@@ -46,7 +46,7 @@ pub(crate) fn stays(stores: &Stores<'_>, counts: &Counts, diagram: Diagram, test
 }
 
 // A leaf where a field holds a value.
-pub fn narrow_leaf<K: WeightKind>(
+pub(crate) fn narrow_leaf<K: WeightKind>(
     stores: &mut Stores<'_>,
     counts: &mut Counts,
     first: Amount,

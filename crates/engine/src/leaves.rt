@@ -19,14 +19,14 @@ use records::Cell;
 use weights::WeightKind;
 
 // The number of no cell, in a function of its own for the loops that begin with it.
-pub fn no_cell() -> Amount
+pub(crate) fn no_cell() -> Amount
     ensures { result.number ≡ 0 }
 {
     Amount { number: 0 }
 }
 
 // Puts an action with its weight on a leaf.
-pub fn put_on<K: WeightKind>(
+pub(crate) fn put_on<K: WeightKind>(
     stores: &mut Stores<'_>,
     counts: &mut Counts,
     action: Action,
@@ -52,7 +52,7 @@ pub fn put_on<K: WeightKind>(
 }
 
 // The leaf of one cell, or of none if its weight is zero.
-pub fn one_cell<K: WeightKind>(
+pub(crate) fn one_cell<K: WeightKind>(
     stores: &mut Stores<'_>,
     counts: &mut Counts,
     action: Action,

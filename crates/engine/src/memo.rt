@@ -8,7 +8,7 @@ use format::{Amount, Setting};
 use records::Diagram;
 
 // How many results are remembered at most.
-pub const PLACES: usize = 1_024;
+pub(crate) const PLACES: usize = 1_024;
 
 // What was constructed of two operands; where it takes one, both are that one.
 #[derive(Clone, Copy, PartialEq, Eq)]
@@ -91,7 +91,7 @@ fn place_of(operation: Operation, left: Diagram, right: Diagram) -> usize
 
 impl Memo {
     // Nothing is remembered.
-    pub fn empty() -> Memo
+    pub(crate) fn empty() -> Memo
         ensures { NothingWritten result.entries }
     {
         Memo {
@@ -100,14 +100,19 @@ impl Memo {
     }
 
     // Forgets everything.
-    pub fn clear(&mut self)
+    pub(crate) fn clear(&mut self)
         ensures { NothingWritten self.new.entries }
     {
         self.entries = [None; PLACES];
     }
 
     // The result of a construction, if it is remembered.
-    pub fn recall(&self, operation: Operation, left: Diagram, right: Diagram) -> Option<Diagram>
+    pub(crate) fn recall(
+        &self,
+        operation: Operation,
+        left: Diagram,
+        right: Diagram,
+    ) -> Option<Diagram>
         ensures { IfSome result (λ w. Recalled self.now.entries operation left right w) }
     {
         let entry = self.entries[place_of(operation, left, right)]?;
@@ -122,7 +127,7 @@ impl Memo {
     }
 
     // Notes the result of a construction.
-    pub fn note(&mut self, entry: Entry)
+    pub(crate) fn note(&mut self, entry: Entry)
         ensures { Noted self.old.entries entry self.new.entries }
     {
         self.entries[place_of(entry.operation, entry.left, entry.right)] = Some(PackedEntry::from(

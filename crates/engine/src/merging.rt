@@ -163,7 +163,7 @@ fn merge_step<K: WeightKind>(
 }
 
 // The leaf of two strands.
-pub fn merge<K: WeightKind>(
+pub(crate) fn merge<K: WeightKind>(
     stores: &mut Stores<'_>,
     counts: &mut Counts,
     left: CellList,

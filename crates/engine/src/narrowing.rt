@@ -18,7 +18,7 @@ use weights::WeightKind;
 
 // A diagram where a field holds a value, remembered or made.
 #[cycle(narrowing)]
-pub fn narrow<K: WeightKind>(
+pub(crate) fn narrow<K: WeightKind>(
     stores: &mut Stores<'_>,
     counts: &mut Counts,
     memo: &mut Memo,
@@ -88,7 +88,7 @@ fn narrow_node<K: WeightKind>(
 
 // The yes side where a field holds a value, else the no side.
 #[cycle(narrowing)]
-pub fn make<K: WeightKind>(
+pub(crate) fn make<K: WeightKind>(
     stores: &mut Stores<'_>,
     counts: &mut Counts,
     memo: &mut Memo,

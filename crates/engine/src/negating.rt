@@ -40,7 +40,7 @@ fn is_pass<K: WeightKind>(stores: &Stores<'_>, counts: &Counts, first: Amount) -
 }
 
 // Pass for drop, drop for pass, and any other leaf itself.
-pub fn negate_leaf<K: WeightKind>(
+pub(crate) fn negate_leaf<K: WeightKind>(
     stores: &mut Stores<'_>,
     counts: &mut Counts,
     first: Amount,
@@ -80,7 +80,7 @@ fn negated_leaf<K: WeightKind>(
 
 // A diagram, with drop and pass exchanged, remembered or made.
 #[cycle(negating)]
-pub fn negate<K: WeightKind>(
+pub(crate) fn negate<K: WeightKind>(
     stores: &mut Stores<'_>,
     counts: &mut Counts,
     memo: &mut Memo,

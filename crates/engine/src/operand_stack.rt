@@ -27,7 +27,7 @@ pub struct OperandStack {
 }
 
 impl OperandStack {
-    pub fn none() -> OperandStack
+    pub(crate) fn none() -> OperandStack
         ensures { waiting_words result ≡ [] }
     {
         OperandStack {
@@ -35,14 +35,14 @@ impl OperandStack {
         }
     }
 
-    pub fn push(&mut self, diagram: Diagram)
+    pub(crate) fn push(&mut self, diagram: Diagram)
         requires { length (waiting_words self.old) < waiting_limit }
         ensures { waiting_words self.new ≡ diagram ∷ waiting_words self.old }
     {
         self.operands.push(StackedOperand { diagram });
     }
 
-    pub fn pop(&mut self) -> Diagram
+    pub(crate) fn pop(&mut self) -> Diagram
         requires { 0 < length (waiting_words self.old) }
         ensures { waiting_words self.old ≡ result ∷ waiting_words self.new }
     {

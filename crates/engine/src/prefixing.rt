@@ -114,7 +114,7 @@ fn greatest<K: WeightKind>(
 }
 
 // A leaf behind an action and a weight.
-pub fn prefix_leaf<K: WeightKind>(
+pub(crate) fn prefix_leaf<K: WeightKind>(
     stores: &mut Stores<'_>,
     counts: &mut Counts,
     first: Amount,
@@ -180,7 +180,7 @@ fn keeps_all<K: WeightKind>(
 
 // An action with a weight, and then a diagram, remembered or made.
 #[cycle(prefixing)]
-pub fn prefix<K: WeightKind>(
+pub(crate) fn prefix<K: WeightKind>(
     stores: &mut Stores<'_>,
     counts: &mut Counts,
     memo: &mut Memo,

@@ -49,7 +49,7 @@ fn follow<K: WeightKind>(
 
 // The first diagram and then the second, remembered or made.
 #[cycle(sequencing)]
-pub fn sequence<K: WeightKind>(
+pub(crate) fn sequence<K: WeightKind>(
     stores: &mut Stores<'_>,
     counts: &mut Counts,
     memo: &mut Memo,

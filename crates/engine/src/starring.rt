@@ -58,7 +58,7 @@ fn next_round<K: WeightKind>(
 }
 
 // The round that the next one repeats.
-pub fn star<K: WeightKind>(
+pub(crate) fn star<K: WeightKind>(
     stores: &mut Stores<'_>,
     counts: &mut Counts,
     memo: &mut Memo,
