@@ -1,11 +1,14 @@
 -- Words that fit, and words that are written, one after another.
 use Rattle.std.proofs.Common.{◌≡◌, ℕ, suc, ◌+◌, ◌-◌, ◌<◌, ◌≤◌, max, List, [], ◌∷◌, ◌++◌, length, take, drop, map, slice_index_or, MutBor, Some, None, Option, sym, refl, ap, ◌∙◌, subst, append_assoc, append-nil, length-append, length-take, arith}
 use lib.ListN.{length-map}
+use Rattle.std.specs.List.{filter}
+use Rattle.std.specs.Option.{is_some, SomeIff}
 use Rattle.std.proofs.lemmas.List.{drop-drop, at_drop_more}
+use Rattle.std.proofs.Math.ListN.{drop_of_length-le}
 use Rattle.format.specs.Words.{word}
 use Rattle.format.specs.Fields.{fields}
 use Rattle.meaning.specs.Leaves.{Action, Cell as MCell}
-use Rattle.meaning.specs.Diagrams.{Diagram as MDiagram, Leaf as MLeaf, Node as MNode}
+use Rattle.meaning.specs.Diagrams.{Diagram as MDiagram, Leaf as MLeaf, Node as MNode, extent}
 use Rattle.records.specs.declared.kinds.Cell.{Cell}
 use Rattle.listing.specs.Rows.{leaves_of, behind, rows_of}
 use Rattle.tables.specs.Rows.{table_words}
@@ -16,15 +19,35 @@ use Rattle.engine.specs.declared.way.Way.{Way}
 use Rattle.engine.specs.Listing.{Fits, set_words, cells_words, leaf_words, rows_words, ways, leaf_count}
 use Rattle.engine.specs.declared.sheet.Sheet.{Sheet}
 use Rattle.engine.specs.Sheets.{Writes}
-use Rattle.engine.specs.Puts.{Puts}
+use Rattle.engine.specs.Puts.{Puts, RoomFor}
 use Rattle.engine.specs.Listed.{AtFront}
 use Rattle.engine.proofs.Words.{table_listed}
 
-pub fits_none : (room : ℕ) → Fits room [] (Some room)
-fits_none room = omega arith
+-- words, the first of them and the rest
+pub record Parts (all first rest : List ℕ) : Type 0 where
+  pub is : all ≡ first ++ rest
 
-pub fits_same : (room : ℕ) (r : Option ℕ) {xs ys : List ℕ} → xs ≡ ys → Fits room xs r → Fits room ys r
-fits_same room r e h = subst (λ (l : List ℕ). Fits room l r) e h
+-- where so much of the room is left for the words that are left of all
+pub record Fitting (room : ℕ) (all rest : List ℕ) (left : ℕ) : Type 0 where
+  pub balance : left + length all ≡ room + length rest
+
+pub fitting_start : (room : ℕ) (all : List ℕ) → Fitting room all all room
+fitting_start room all = record { balance = refl }
+
+module _ {room : ℕ} {all rest : List ℕ} {left : ℕ} (h : Fitting room all rest left) where
+  pub fitting_end : rest ≡ [] → Fits room all (Some left)
+  fitting_end e = omega (arith, h.balance, ap length e)
+
+  pub fitting_last : {xs : List ℕ} (r : Option ℕ) → rest ≡ xs → Fits left xs r → Fits room all r
+  fitting_last None e f = omega (arith, h.balance, ap length e, f)
+  fitting_last (Some m) e f = omega (arith, h.balance, ap length e, f)
+
+  module _ {xs ys : List ℕ} (e : Parts rest xs ys) where
+    pub fitting_stop : Fits left xs None → Fits room all None
+    fitting_stop f = omega (arith, h.balance, ap length e.is, length-append xs ys, f)
+
+    pub fitting_more : (m : ℕ) → Fits left xs (Some m) → Fitting room all ys m
+    fitting_more m f = record { balance = omega (arith, h.balance, ap length e.is, length-append xs ys, f) }
 
 past_more : (ws is : List ℕ) (k m j : ℕ) → j ≡ k + m → drop k is ≡ drop k ws → drop j is ≡ drop j ws
 past_more ws is k m j e h = ap (λ (i : ℕ). drop i is) e ∙ (sym (drop-drop m k is) ∙ (ap (λ (l : List ℕ). drop m l) h ∙ (drop-drop m k ws ∙ ap (λ (i : ℕ). drop i ws) (sym e))))
@@ -68,52 +91,97 @@ begun {q} {p} {s} {xs} h e k r =
       lender = ap (λ (b : MutBor (List ℕ)). b.ghost_name) e ∙ h.lender;
     }
 
+-- where these words are left of all, and so many rows were put
+pub record Putting (q : Sheet) (all rest : List ℕ) (rows : ℕ) (s : Sheet) : Type 0 where
+  pub put : List ℕ
+  pub puts : Puts q put rows s
+  pub whole : put ++ rest ≡ all
+
+pub putting_start : (q : Sheet) (all : List ℕ) → Putting q all all 0 q
+putting_start q all = record { put = []; puts = puts_none q; whole = refl }
+
+module _ {q s : Sheet} {all rest : List ℕ} {rows : ℕ} (h : Putting q all rest rows s) where
+  pub putting_end : rest ≡ [] → Puts q all rows s
+  putting_end e = puts_same (sym (append-nil h.put) ∙ (ap (λ (l : List ℕ). h.put ++ l) (sym e) ∙ h.whole)) refl h.puts
+
+  putting_long : length h.put + length rest ≡ length all
+  putting_long = sym (length-append h.put rest) ∙ ap length h.whole
+
+  module _ {xs ys : List ℕ} (e : Parts rest xs ys) where
+    pub putting_room : RoomFor q all → RoomFor s xs
+    putting_room r = omega (arith, r, putting_long, ap length e.is, length-append xs ys, h.puts.writes.size, h.puts.writes.count)
+
+    pub putting_more : {t : Sheet} {m : ℕ} → Puts s xs m t → Putting q all ys (rows + m) t
+    putting_more p = record { put = h.put ++ xs; puts = puts_then h.puts p; whole = append_assoc h.put xs ys ∙ (ap (λ (l : List ℕ). h.put ++ l) (sym e.is) ∙ h.whole) }
+
+  module _ {xs : List ℕ} (e : rest ≡ xs) where
+    pub last_room : RoomFor q all → RoomFor s xs
+    last_room r = putting_room (record { is = e ∙ sym (append-nil xs) }) r
+
+    pub putting_last : {t : Sheet} {m : ℕ} → Puts s xs m t → Puts q all (rows + m) t
+    putting_last p = puts_same (ap (λ (l : List ℕ). h.put ++ l) (sym e) ∙ h.whole) refl (puts_then h.puts p)
+
+-- words one after another
+pub one_word : (ws : List ℕ) (i : ℕ) → i < length ws → Parts (drop i ws) (slice_index_or ws i 0 ∷ []) (drop (i + 1) ws)
+one_word ws i h = record { is = at_drop_more (λ (l : List ℕ). l) ws i 0 h }
+
 -- the set words of an action
 
 set_more : (a : Action) (f : ℕ) {x : Option ℕ} → f < length a → slice_index_or a f None ≡ x → set_words f (drop f a) ≡ set_words f (x ∷ drop (f + 1) a)
 set_more a f h e = at_drop_more (λ (l : Action). set_words f l) a f None h ∙ ap (λ (y : Option ℕ). set_words f (y ∷ drop (f + 1) a)) e
 
-next_field : {q s : Sheet} (a : Action) (f : ℕ) → Puts q (set_words (f + 1) a) 0 s → Puts q (set_words (suc f) a) 0 s
-next_field {q} {s} a f h = let e : f + 1 ≡ suc f = omega arith in subst (λ (k : ℕ). Puts q (set_words k a) 0 s) e h
+next_field : (a : Action) (f : ℕ) → set_words (suc f) a ≡ set_words (f + 1) a
+next_field a f = let e : suc f ≡ f + 1 = omega arith in ap (λ (k : ℕ). set_words k a) e
 
-pub set_put :
-    {q s t : Sheet} (a : Action) (f : ℕ) {v : ℕ} → f < length a → slice_index_or a f None ≡ Some v → Puts q (word 13 f v ∷ []) 0 s → Puts s (set_words (f + 1) (drop (f + 1) a)) 0 t →
-    Puts q (set_words f (drop f a)) 0 t
-set_put a f h e p r = puts_same (sym (set_more a f h e)) refl (puts_then p (next_field (drop (f + 1) a) f r))
+pub set_is : (a : Action) (f : ℕ) {v : ℕ} → f < length a → slice_index_or a f None ≡ Some v → Parts (set_words f (drop f a)) (word 13 f v ∷ []) (set_words (f + 1) (drop (f + 1) a))
+set_is a f {v} h e = record { is = set_more a f h e ∙ ap {B = List ℕ} (λ (l : List ℕ). word 13 f v ∷ l) (next_field (drop (f + 1) a) f) }
 
-pub set_passed : {q t : Sheet} (a : Action) (f : ℕ) → f < length a → slice_index_or a f None ≡ None → Puts q (set_words (f + 1) (drop (f + 1) a)) 0 t → Puts q (set_words f (drop f a)) 0 t
-set_passed a f h e r = puts_same (sym (set_more a f h e)) refl (next_field (drop (f + 1) a) f r)
+pub set_is_not : (a : Action) (f : ℕ) → f < length a → slice_index_or a f None ≡ None → set_words f (drop f a) ≡ set_words (f + 1) (drop (f + 1) a)
+set_is_not a f h e = set_more a f h e ∙ next_field (drop (f + 1) a) f
 
--- words one after another
-pub word_put : {q s t : Sheet} (ws : List ℕ) (i : ℕ) → i < length ws → Puts q (slice_index_or ws i 0 ∷ []) 0 s → Puts s (drop (i + 1) ws) 0 t → Puts q (drop i ws) 0 t
-word_put ws i h p r = puts_same (sym (at_drop_more (λ (l : List ℕ). l) ws i 0 h)) refl (puts_then p r)
+pub no_more_sets : (a : Action) (f : ℕ) → length a ≤ f → set_words f (drop f a) ≡ []
+no_more_sets a f h = ap (λ (l : Action). set_words f l) (drop_of_length-le a h)
+
+pub sets_counted : (f : ℕ) (a : Action) → length (set_words f a) ≡ length (filter (is_some {T = ℕ}) a)
+sets_counted f [] = refl
+sets_counted f (None ∷ a) = sets_counted (suc f) a
+sets_counted f (Some v ∷ a) = ap suc (sets_counted (suc f) a)
 
 -- the cells of a leaf
 
-pub cells_none : (s : State) {n : ℕ} → n ≡ 0 → cells_words (leaf_at s n) ≡ []
-cells_none s e = ap (λ (k : ℕ). cells_words (leaf_at s k)) e
+cell_long : (a : Action) (w : ℕ) → length (cells_words ((a, w) ∷ [])) ≡ 1 + length (filter (is_some {T = ℕ}) a)
+cell_long a w = omega (arith, length-append (set_words 0 a) [], sets_counted 0 a)
+
+sets_few : (a : Action) → length (filter (is_some {T = ℕ}) a) ≤ length a
+sets_few [] = omega arith
+sets_few (None ∷ a) = let h = sets_few a in omega (arith, h)
+sets_few (Some v ∷ a) = let h = sets_few a in omega (arith, h)
+
+pub few_sets : {k : ℕ} (a : Action) → k ≡ length (filter (is_some {T = ℕ}) a) → k ≤ length a
+few_sets a e = let h = sets_few a in omega (arith, h, e)
+
+pub cell_fits : (room : ℕ) {k : ℕ} (a : Action) (w : ℕ) (r : Option ℕ) → k ≡ length (filter (is_some {T = ℕ}) a) → SomeIff r (1 + k ≤ room) (room - (1 + k)) → Fits room (cells_words ((a, w) ∷ [])) r
+cell_fits room {k} a w None e h = small h
+  where
+    small : (1 + k ≤ room → ⊥) → room < length (cells_words ((a, w) ∷ []))
+    small n = let l = cell_long a w in omega (arith, l, e, n)
+cell_fits room {k} a w (Some m) e (p, q) = let l = cell_long a w in omega (arith, l, e, p, q)
+
+pub cell_is : (a : Action) (w : ℕ) → cells_words ((a, w) ∷ []) ≡ (word 12 0 w ∷ []) ++ set_words 0 a
+cell_is a w = ap {B = List ℕ} (λ (l : List ℕ). word 12 0 w ∷ l) (append-nil (set_words 0 a))
+
+pub cells_none : (s : State) (n : ℕ) → n ≡ 0 → cells_words (leaf_at s n) ≡ []
+cells_none s n e = ap (λ (k : ℕ). cells_words (leaf_at s k)) e
 
 module _ {s : State} {n : ℕ} {x : Cell} (r : CellRead s n x) {K : Action} (e : K ≡ action_at s x.action.number) where
-  pub cells_first : cells_words (leaf_at s n) ≡ word 12 0 x.weight.number ∷ (set_words 0 K ++ cells_words (leaf_at s x.rest.number))
-  cells_first = ap cells_words r.itself ∙ ap {B = List ℕ} (λ (a : Action). word 12 0 x.weight.number ∷ (set_words 0 a ++ cells_words (leaf_at s x.rest.number))) (sym e)
-
-  pub cells_long : length (cells_words (leaf_at s n)) ≡ 1 + (length (set_words 0 K) + length (cells_words (leaf_at s x.rest.number)))
-  cells_long = omega (arith, ap length cells_first, length-append (set_words 0 K) (cells_words (leaf_at s x.rest.number)))
-
-  pub cells_zero : {room : ℕ} → room ≡ 0 → Fits room (cells_words (leaf_at s n)) None
-  cells_zero i = omega (arith, i, cells_long)
-
-  pub cells_stop : {room : ℕ} → 0 < room → Fits (room - 1) (set_words 0 K) None → Fits room (cells_words (leaf_at s n)) None
-  cells_stop {room} p h = omega (arith, p, h, cells_long)
-
-  pub cells_go_on : {room : ℕ} (left : ℕ) (q : Option ℕ) → 0 < room → Fits (room - 1) (set_words 0 K) (Some left) → Fits left (cells_words (leaf_at s x.rest.number)) q → Fits room (cells_words (leaf_at s n)) q
-  cells_go_on {room} left None p h k = omega (arith, p, h, k, cells_long)
-  cells_go_on {room} left (Some m) p h k = omega (arith, p, h, k, cells_long)
-
-  pub cells_put :
-      {q r' t u : Sheet} → Puts q (word 12 0 x.weight.number ∷ []) 0 r' → Puts r' (set_words 0 K) 0 t → Puts t (cells_words (leaf_at s x.rest.number)) 0 u →
-      Puts q (cells_words (leaf_at s n)) 0 u
-  cells_put a b d = puts_same (sym cells_first) refl (puts_then a (puts_then b d))
+  pub cells_first : Parts (cells_words (leaf_at s n)) (cells_words ((K, x.weight.number) ∷ [])) (cells_words (leaf_at s x.rest.number))
+  cells_first =
+      record {
+        is =
+            ap cells_words r.itself
+            ∙ (ap {B = List ℕ} (λ (a : Action). word 12 0 x.weight.number ∷ (set_words 0 a ++ cells_words (leaf_at s x.rest.number))) (sym e)
+            ∙ ap (λ (l : List ℕ). l ++ cells_words (leaf_at s x.rest.number)) (sym (cell_is K x.weight.number)));
+      }
 
 -- a way
 pub way_long : (way : Way) → length (take way.count way.words) ≡ way.count
@@ -121,12 +189,9 @@ way_long way = omega (arith, length-take way.count way.words, way.whole, way.wit
 
 -- the row of a leaf
 
-pub leaf_fits_not : {room k : ℕ} (ms : List ℕ) (l : List MCell) → length ms ≡ k → room ≤ k → Fits room (leaf_words ms l) None
-leaf_fits_not ms l e h = omega (arith, e, h, length-append ms (cells_words l))
-
-pub leaf_fits_all : {room k : ℕ} (r : Option ℕ) (ms : List ℕ) (l : List MCell) → length ms ≡ k → k < room → Fits (room - k - 1) (cells_words l) r → Fits room (leaf_words ms l) r
-leaf_fits_all None ms l e h f = omega (arith, e, h, f, length-append ms (cells_words l))
-leaf_fits_all (Some m) ms l e h f = omega (arith, e, h, f, length-append ms (cells_words l))
+pub leaf_fits_all : {room k : ℕ} (m : ℕ) (r : Option ℕ) (ms : List ℕ) (l : List MCell) → length ms ≡ k → m + (1 + k) ≡ room → Fits m (cells_words l) r → Fits room (leaf_words ms l) r
+leaf_fits_all m None ms l e h f = omega (arith, e, h, f, length-append ms (cells_words l))
+leaf_fits_all m (Some n) ms l e h f = omega (arith, e, h, f, length-append ms (cells_words l))
 
 pub leaf_long : (ms : List ℕ) (l : List MCell) → length (leaf_words ms l) ≡ 1 + (length ms + length (cells_words l))
 leaf_long ms l = omega (arith, length-append ms (cells_words l))
@@ -140,9 +205,6 @@ leaf_put ms l a b d = puts_then a (puts_then b d)
 module _ {D : MDiagram} {f n : ℕ} {y z : MDiagram} (whole : D ≡ MNode f n y z) (ms : List ℕ) where
   pub rows_split : rows_words ms D ≡ rows_words (ms ++ (word 11 f n ∷ [])) y ++ rows_words ms z
   rows_split = ap (rows_words ms) whole
-
-  pub rows_long : length (rows_words ms D) ≡ length (rows_words (ms ++ (word 11 f n ∷ [])) y) + length (rows_words ms z)
-  rows_long = ap length rows_split ∙ length-append (rows_words (ms ++ (word 11 f n ∷ [])) y) (rows_words ms z)
 
   pub ways_split : ways D ≡ max (suc (ways y)) (ways z)
   ways_split = ap ways whole
@@ -158,21 +220,11 @@ module _ {D : MDiagram} {f n : ℕ} {y z : MDiagram} (whole : D ≡ MNode f n y 
   way_no h = omega (arith, h, ways_split)
 
   module _ {ms' : List ℕ} (e : ms' ≡ ms ++ (word 11 f n ∷ [])) where
-    pub way_yes : length ms + ways D ≤ fields → length ms' + ways y ≤ fields
-    way_yes h = omega (arith, h, ways_split, ap length e, length-append ms (word 11 f n ∷ []))
+    pub rows_first : Parts (rows_words ms D) (rows_words ms' y) (rows_words ms z)
+    rows_first = record { is = rows_split ∙ ap (λ (l : List ℕ). rows_words l y ++ rows_words ms z) (sym e) }
 
-    pub yes_long : length (rows_words ms D) ≡ length (rows_words ms' y) + length (rows_words ms z)
-    yes_long = rows_long ∙ ap (λ (l : List ℕ). length (rows_words l y) + length (rows_words ms z)) (sym e)
-
-    pub rows_stop : {room : ℕ} → Fits room (rows_words ms' y) None → Fits room (rows_words ms D) None
-    rows_stop h = omega (arith, h, yes_long)
-
-    pub rows_go_on : {room : ℕ} (left : ℕ) (q : Option ℕ) → Fits room (rows_words ms' y) (Some left) → Fits left (rows_words ms z) q → Fits room (rows_words ms D) q
-    rows_go_on left None h k = omega (arith, h, k, yes_long)
-    rows_go_on left (Some m) h k = omega (arith, h, k, yes_long)
-
-    pub rows_put : {q s t : Sheet} → Puts q (rows_words ms' y) (leaf_count y) s → Puts s (rows_words ms z) (leaf_count z) t → Puts q (rows_words ms D) (leaf_count D) t
-    rows_put a b = puts_same (ap (λ (l : List ℕ). rows_words l y ++ rows_words ms z) e ∙ sym rows_split) (sym count_split) (puts_then a b)
+pub node_smaller : {D : MDiagram} {f n : ℕ} {y z : MDiagram} → D ≡ MNode f n y z → (suc (extent y) ≤ extent D) × (suc (extent z) ≤ extent D)
+node_smaller e = let k = ap extent e in (omega (arith, k), omega (arith, k))
 
 module _ {D : MDiagram} {l : List MCell} (leaf : D ≡ MLeaf l) (ms : List ℕ) where
   pub leaf_rows : rows_words ms D ≡ leaf_words ms l

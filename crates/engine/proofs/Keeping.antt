@@ -15,11 +15,11 @@ use Rattle.records.specs.declared.kinds.Diagram.TheVariants.{Leaf, Branch}
 use Rattle.counts.specs.declared.counts.Counts.{Counts}
 use Rattle.engine.specs.declared.memory.Stores.{Stores}
 use Rattle.engine.specs.Contents.{Contents, contents}
+use Rattle.stored.specs.Whole.{AllFormed}
 use Rattle.engine.specs.Built.{numbered_or}
 use Rattle.engine.specs.State.{state, diagram_of, Present, Has, Sound}
 use Rattle.engine.specs.Done.{SoundStores, NothingLost, Done}
 use Rattle.format.specs.Policy.{Policy, Legal}
-use Rattle.engine.specs.HeldFormed.{HeldFormed}
 use Rattle.engine.proofs.Numbers.{numbered_any, numbered_value}
 use Rattle.engine.proofs.Decoding.{leaf_full, node_whole}
 use Rattle.engine.proofs.NarrowRules.{here}
@@ -36,7 +36,7 @@ good_back {c} {c'} {s} {s'} g k =
       };
     }
 
-pub formed_back : {o : Ops} {c c' : Counts} {s s' : Stores} → NothingLost c s c' s' → HeldFormed o c s → HeldFormed o c s'
+pub formed_back : {o : Ops} {c c' : Counts} {s s' : Stores} → NothingLost c s c' s' → AllFormed o (here c s) → AllFormed o (here c s')
 formed_back {o} {c} k h q m = h q (subst (λ (x : Contents). Has (state x) q) k.stays m)
 
 module _ {o : Ops} (c : Contents) (g : Sound c) (h : (q : Request) → Has (state c) q → RecordFormed o q) where
@@ -64,39 +64,14 @@ module _ {o : Ops} (c : Contents) (g : Sound c) (h : (q : Request) → Has (stat
       let r = numbered_any (state c).nodes n.number p.0 p.1 in
       subst (λ (d : MDiagram). Formed o d) (sym (numbered_value (MLeaf []) (state c).nodes n.number r.0 r.1)) (node_formed n.number r.0 r.1)
 
-pub made_formed : {o : Ops} {c c' : Counts} {s s' : Stores} {R : Construction} {r : Diagram} → HeldFormed o c s → (d : Done R c s c' s' (Ok r)) → Each (RecordFormed o) d.asks → HeldFormed o c' s'
+pub made_formed : {o : Ops} {c c' : Counts} {s s' : Stores} {R : Construction} {r : Diagram} → AllFormed o (here c s) → (d : Done R c s c' s' (Ok r)) → Each (RecordFormed o) d.asks → AllFormed o (here c' s')
 made_formed {o} {c} {c'} {s} {s'} h d asked = λ x m. go x (d.made.added.nothing_else x m)
   where
     go : (x : Request) → Has (here c s) x ⊎ In x d.asks → RecordFormed o x
     go x (inl m) = h x m
     go x (inr m) = each_in (RecordFormed o) d.asks asked x m
 
--- what holds of the stores after a refusal, and after a construction that requests well-formed records only
-pub after_refusal :
-    {o : Ops} {c d e c' : Counts} {s s' : Stores} →
-    d ≡ c →
-    e ≡ c →
-    SoundStores c s →
-    HeldFormed o c s →
-    NothingLost d s c' s' →
-    SoundStores e s' × HeldFormed o e s'
-after_refusal {o} {c} {d} {e} {c'} {s} {s'} i j g h k =
-    let k' : NothingLost c s c' s' = subst (λ (x : Counts). NothingLost x s c' s') i k in
-    subst (λ (x : Counts). SoundStores x s' × HeldFormed o x s') (sym j) (good_back g k', formed_back k' h)
-
-pub after_made :
-    {o : Ops} {c d e c' : Counts} {s s' : Stores} {r : Diagram} (R : Counts → Construction) →
-    d ≡ c →
-    e ≡ c' →
-    HeldFormed o c s →
-    ((q : MDiagram) (x : List Request) → R c q x → Each (RecordFormed o) x) →
-    Done (R d) d s c' s' (Ok r) →
-    SoundStores e s' × HeldFormed o e s'
-after_made {o} {c} {d} {e} {c'} {s} {s'} {r} R i j h f m =
-    let m' : Done (R c) c s c' s' (Ok r) = subst (λ (x : Counts). Done (R x) x s c' s' (Ok r)) i m in
-    subst (λ (x : Counts). SoundStores x s' × HeldFormed o x s') (sym j) (m'.made.good, made_formed h m' (f m'.out m'.asks m'.by_the_rules))
-
-module _ {o : Ops} (L : Laws o) {c : Counts} {s : Stores} (g : SoundStores c s) (h : HeldFormed o c s) where
+module _ {o : Ops} (L : Laws o) {c : Counts} {s : Stores} (g : SoundStores c s) (h : AllFormed o (here c s)) where
   pub stands_formed : (w : Diagram) → Present (here c s) w → Formed o (diagram_of (here c s) w)
   stands_formed w p = word_formed (contents c s) g.sound h w p
 

@@ -33,7 +33,9 @@ pub mod OperationsAlike
 pub mod SimpleRules
 pub mod Words
 pub mod InTurn
+pub mod Rows
 pub mod Unchanged
 pub mod Calls
 pub mod Empty
 pub mod Tabulating
+pub mod Showing

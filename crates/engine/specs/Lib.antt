@@ -3,8 +3,6 @@ pub mod Built
 pub mod State
 pub mod Done
 pub mod Leaves
-pub mod HeldFormed
-pub mod OneProof
 pub mod Rounds
 pub mod Memo
 pub mod Cells
@@ -18,3 +16,4 @@ pub mod Sheets
 pub mod Puts
 pub mod Listed
 pub mod Views
+pub mod Shapes

@@ -3,17 +3,20 @@ ghost use Rattle.std.specs.Prelude.{◌≡◌, length};
 ghost use Rattle.checking.specs.Checked.{policy_words};
 ghost use Rattle.stored.specs.Calls.{Constructs, Compile, Union, Sequence, Star};
 ghost use Rattle.engine.specs.Listed.{Tabulates};
+ghost use Rattle.engine.specs.Shapes.{Shows};
 ghost use Rattle.engine.specs.Views.{nothing, rooms_of};
 
+use super::enter::{action, cell, node};
 use super::memo::Memo;
 use super::memory::Stores;
+use super::shape::Shape;
 use super::{compiling, joining, putting, sequencing, starring};
 use actions::Action;
 use checking::CheckedPolicy;
 use counts::{Counts, Guard};
 use faults::{BenchFault, StoreFault};
 use format::VALUE_END;
-use records::{Cell, Node};
+use records::{Cell, Diagram, Node};
 use std::marker::{Model, PhantomData};
 use stores::Store;
 use weights::WeightKind;
@@ -31,6 +34,7 @@ impl<'a, K: WeightKind> Model for Engine<'a, K> {
     ghost use Rattle.stored.specs.Stored.{Holdings};
     ghost use Rattle.stored.specs.Codes.{holdings_code};
     ghost use Rattle.engine.specs.Listed.{Tabulates};
+    ghost use Rattle.engine.specs.Shapes.{Shows};
     ghost use Rattle.engine.specs.Views.{holdings, SoundEngine};
 
     ghost Value = { Holdings };
@@ -73,6 +77,34 @@ impl<K: WeightKind> Engine<'_, K> {
         ensures nodes { result.nodes ≡ length self.now.stored.nodes }
     {
         self.counts
+    }
+
+    // What a diagram in store is at its top; none where the word is not held.
+    pub fn read(&self, word: u32) -> Option<Shape>
+        ensures { Shows self.now.stored word result }
+    {
+        let Ok(diagram) = self.counts.operand(0, word) else {
+            return None;
+        };
+        match diagram {
+            Diagram::Leaf(first) if first.number == 0 => Some(Shape::Drop),
+            Diagram::Leaf(first) => {
+                let own = cell(&self.stores, &self.counts, first);
+                Some(Shape::Cell {
+                    action: action(&self.stores, &self.counts, own.action),
+                    weight: own.weight.number,
+                    rest: u32::from(Diagram::Leaf(own.rest)),
+                })
+            }
+            Diagram::Branch(number) => {
+                let root = node(&self.stores, &self.counts, number);
+                Some(Shape::Test {
+                    test: root.test,
+                    yes: u32::from(root.yes),
+                    no: u32::from(root.no),
+                })
+            }
+        }
     }
 
     // Writes the table of a diagram in store at the front of memory. Its length is judged before a word is written.

@@ -19,8 +19,10 @@ mod prefixing;
 mod putting;
 mod roots;
 mod sequencing;
+mod shape;
 mod sheet;
 mod starring;
 mod way;
 
 pub use engine::Engine;
+pub use shape::Shape;

@@ -1,6 +1,5 @@
 // The table of a diagram, written.
-ghost use Rattle.std.specs.Prelude.{◌≡◌, ◌<◌, ◌≤◌, ◌+◌, length, drop};
-ghost use Rattle.format.specs.Fields.{fields};
+ghost use Rattle.std.specs.Prelude.{◌≡◌, ◌<◌, ◌≤◌, [], ◌∷◌, length};
 ghost use Rattle.format.specs.Words.{value_end};
 ghost use Rattle.meaning.specs.Diagrams.{Formed};
 ghost use Rattle.engine.specs.Done.{SoundStores};
@@ -21,83 +20,80 @@ use records::Diagram;
 use tables::{TableKind, TableWord};
 use weights::WeightKind;
 
-// Writes words from a place on.
-pub(crate) fn put_words(sheet: &mut Sheet<'_>, words: &[u32], from: usize)
-    requires from { from ≤ length words.now }
-    requires room { RoomFor sheet.old (drop from words.now) }
-    ensures { Puts sheet.old (drop from words.now) 0 sheet.new }
+// Writes words.
+fn put_words(sheet: &mut Sheet<'_>, words: &[u32])
+    requires { RoomFor sheet.old words.now }
+    ensures { Puts sheet.old words.now 0 sheet.new }
 {
-    if from == words.len() {
-        return;
+    'words: for word in words {
+        sheet.push(*word);
     }
-    sheet.push(words[from]);
-    put_words(sheet, words, from + 1)
 }
 
-// Writes the set words of an action from a field on.
-pub(crate) fn put_sets(sheet: &mut Sheet<'_>, kept: &Action, from: usize)
-    requires from { from ≤ fields }
-    requires room { RoomFor sheet.old (set_words from (drop from kept.now.sets)) }
-    ensures { Puts sheet.old (set_words from (drop from kept.now.sets)) 0 sheet.new }
+// Writes the set words of an action.
+fn put_sets(sheet: &mut Sheet<'_>, kept: &Action)
+    requires { RoomFor sheet.old (set_words 0 kept.now.sets) }
+    ensures { Puts sheet.old (set_words 0 kept.now.sets) 0 sheet.new }
 {
-    if from == WIDTH {
-        return;
+    'fields: for field in 0..WIDTH {
+        if let Some(value) = kept.sets[field] {
+            let word = TableWord {
+                kind: TableKind::Set,
+                field: field as u32,
+                value,
+            };
+            sheet.push(u32::from(word));
+        }
     }
-    if let Some(value) = kept.sets[from] {
-        let word = TableWord {
-            kind: TableKind::Set,
-            field: from as u32,
-            value,
-        };
-        sheet.push(u32::from(word));
-    }
-    put_sets(sheet, kept, from + 1)
+}
+
+// Writes the words of a cell: its weight, and each field that its action sets.
+fn put_cell(sheet: &mut Sheet<'_>, weight: Amount, kept: &Action)
+    requires { RoomFor sheet.old (cells_words ((kept.now.sets, weight.number) ∷ [])) }
+    ensures { Puts sheet.old (cells_words ((kept.now.sets, weight.number) ∷ [])) 0 sheet.new }
+{
+    let word = TableWord {
+        kind: TableKind::Weight,
+        field: 0,
+        value: weight.number,
+    };
+    sheet.push(u32::from(word));
+    put_sets(sheet, kept);
 }
 
 // Writes the words of a leaf's cells.
-pub(crate) fn put_cells(stores: &Stores<'_>, counts: &Counts, sheet: &mut Sheet<'_>, first: Amount)
+fn put_cells(stores: &Stores<'_>, counts: &Counts, sheet: &mut Sheet<'_>, first: Amount)
     requires good { SoundStores counts.now stores.now }
     requires present { LeafInStore counts.now stores.now first }
     requires room { RoomFor sheet.old (cells_words (cells_from counts.now stores.now first)) }
     ensures { Puts sheet.old (cells_words (cells_from counts.now stores.now first)) 0 sheet.new }
 {
-    if first.number == 0 {
-        return;
+    let mut rest = first;
+    'cells: while rest.number != 0 {
+        let own = cell(stores, counts, rest);
+        put_cell(sheet, own.weight, &action(stores, counts, own.action));
+        rest = own.rest;
     }
-    let own = cell(stores, counts, first);
-    let kept = action(stores, counts, own.action);
-    let word = TableWord {
-        kind: TableKind::Weight,
-        field: 0,
-        value: own.weight.number,
-    };
-    sheet.push(u32::from(word));
-    put_sets(sheet, &kept, 0);
-    put_cells(stores, counts, sheet, own.rest)
 }
 
 // How many cells a leaf has.
-pub(crate) fn count_cells(stores: &Stores<'_>, counts: &Counts, first: Amount) -> u32
+fn count_cells(stores: &Stores<'_>, counts: &Counts, first: Amount) -> u32
     requires good { SoundStores counts.now stores.now }
     requires present { LeafInStore counts.now stores.now first }
     requires few { length (cells_from counts.now stores.now first) < value_end }
     ensures { result ≡ length (cells_from counts.now stores.now first) }
 {
-    if first.number == 0 {
-        return 0;
+    let mut rest = first;
+    let mut count = 0;
+    'cells: while rest.number != 0 {
+        rest = cell(stores, counts, rest).rest;
+        count += 1;
     }
-    let own = cell(stores, counts, first);
-    count_cells(stores, counts, own.rest) + 1
+    count
 }
 
 // Writes the row of a leaf.
-pub(crate) fn put_leaf(
-    stores: &Stores<'_>,
-    counts: &Counts,
-    sheet: &mut Sheet<'_>,
-    way: &Way,
-    first: Amount,
-)
+fn put_leaf(stores: &Stores<'_>, counts: &Counts, sheet: &mut Sheet<'_>, way: &Way, first: Amount)
     requires good { SoundStores counts.now stores.now }
     requires present { LeafInStore counts.now stores.now first }
     requires countable { length sheet.old.words.now ≤ value_end }
@@ -111,12 +107,12 @@ pub(crate) fn put_leaf(
     };
     sheet.push(u32::from(head));
     sheet.rows += 1;
-    put_words(sheet, &way.words[..way.count], 0);
+    put_words(sheet, &way.words[..way.count]);
     put_cells(stores, counts, sheet, first)
 }
 
 // Writes the rows of a diagram.
-pub(crate) fn put_rows(
+fn put_rows(
     stores: &Stores<'_>,
     counts: &Counts,
     sheet: &mut Sheet<'_>,
@@ -130,14 +126,17 @@ pub(crate) fn put_rows(
     requires room { RoomFor sheet.old (rows_words (way_words way.now) (diagram_in counts.now stores.now diagram)) }
     ensures { let d = diagram_in counts.now stores.now diagram in Puts sheet.old (rows_words (way_words way.now) d) (leaf_count d) sheet.new }
 {
-    let number = match diagram {
-        Diagram::Leaf(first) => return put_leaf(stores, counts, sheet, way, first),
-        Diagram::Branch(number) => number,
-    };
-    let root = node(stores, counts, number);
-    let behind = way.with(root.test);
-    put_rows(stores, counts, sheet, &behind, root.yes);
-    put_rows(stores, counts, sheet, way, root.no)
+    let mut rest = diagram;
+    'tests: loop {
+        let number = match rest {
+            Diagram::Leaf(first) => return put_leaf(stores, counts, sheet, way, first),
+            Diagram::Branch(number) => number,
+        };
+        let root = node(stores, counts, number);
+        let behind = way.with(root.test);
+        put_rows(stores, counts, sheet, &behind, root.yes);
+        rest = root.no;
+    }
 }
 
 // Writes the table of a diagram, if it is no longer than the memory.

@@ -1,7 +1,15 @@
 use Rattle.meaning.specs.Diagrams.{extent}
 use Rattle.engine.specs.Contents.{contents}
 use Rattle.engine.specs.State.{state, diagram_of}
+use Rattle.engine.specs.Puts.{InStore, diagram_in, way_words}
+use Rattle.engine.proofs.Rows.{RowsFit}
 use Rattle.engine.proofs.fitting.+rows_fit.Given as goal
 
 abbrev pub decreases-rows_fit : goal.decreases-rows_fit
 decreases-rows_fit l = extent (diagram_of (state (contents l.counts.now l.stores.now)) l.diagram)
+
+abbrev pub invariant-tests : goal.invariant-tests
+invariant-tests l = InStore l.counts l.stores l.rest × RowsFit l.fn.room (way_words l.way) (diagram_in l.counts l.stores l.fn.diagram) (diagram_in l.counts l.stores l.rest) l.left
+
+abbrev pub decreases-tests : goal.decreases-tests
+decreases-tests l = extent (diagram_in l.counts l.stores l.rest)

@@ -1,0 +1,12 @@
+use Rattle.std.proofs.Common.{length}
+use Rattle.engine.specs.Listing.{cells_words}
+use Rattle.engine.specs.Puts.{LeafInStore, cells_from}
+use Rattle.engine.proofs.InTurn.{Putting}
+use Rattle.engine.proofs.putting.put_cells.Given as goal
+
+abbrev pub invariant-cells : goal.invariant-cells
+invariant-cells l =
+    LeafInStore l.counts l.stores l.rest × Putting l.fn.sheet (cells_words (cells_from l.counts l.stores l.fn.first)) (cells_words (cells_from l.counts l.stores l.rest)) 0 l.sheet
+
+abbrev pub decreases-cells : goal.decreases-cells
+decreases-cells l = length (cells_from l.counts l.stores l.rest)
