@@ -21,7 +21,7 @@ drop_in [] h = absurd (omega (arith, h))
 drop_in (x ∷ []) h = absurd (omega (arith, h))
 drop_in (x ∷ y ∷ ws) h = refl
 
-as_long : (ws r : List ℕ) → 2 ≤ length ws → length (written ws r) ≡ length ws
+pub as_long : (ws r : List ℕ) → 2 ≤ length ws → length (written ws r) ≡ length ws
 as_long [] r h = absurd (omega (arith, h))
 as_long (x ∷ []) r h = absurd (omega (arith, h))
 as_long (x ∷ y ∷ ws) r h = refl

@@ -3,20 +3,20 @@ ghost use Rattle.std.specs.Prelude.{◌≡◌, ◌≤◌, length, drop, replicat
 ghost use Rattle.checking.specs.Checked.{policy_words};
 ghost use Rattle.steps.specs.States.{opened};
 ghost use Rattle.steps.specs.Steps.{Step, Compile, Union, Sequence, Star, Install, Forward};
-ghost use Rattle.bench.specs.Sizes.{judged_sizes};
+ghost use Rattle.bench.specs.Sizes.{sizes_in};
 ghost use Rattle.bench.specs.Replies.{word_reply, install_reply, forward_reply};
 ghost use Rattle.bench.specs.Texts.{CompilesText};
 ghost use Rattle.bench.specs.Reading.{PassesTheCheck, ForwardsAlike};
 
 use super::installing::put_in_force;
-use super::judged::Judged;
+use super::memories::Memories;
 use counts::Counts;
 use engine::Engine;
 use faults::BenchFault;
 use format::WORDS_LIMIT;
 use listing::drop_table;
 use policy::{CheckedPolicy, read_policy};
-use std::marker::Model;
+use std::marker::{Model, PhantomData};
 use tables::{CheckedTable, TableInForce};
 use weights::WeightKind;
 
@@ -41,21 +41,25 @@ impl<'a, K: WeightKind> Model for Bench<'a, K> {
 
 impl<'a, K: WeightKind> Bench<'a, K> {
     // A bench in memories that fit: nothing is in store, and the table of drop is in force.
-    pub fn open(judged: Judged<'a>) -> Bench<'a, K>
-        ensures { result ≡ opened (judged_sizes judged.entry) }
+    pub fn open(memories: Memories<'a>) -> Bench<'a, K>
+        ensures { result ≡ opened (sizes_in memories.entry) }
     {
-        let Judged {
+        let Memories {
             actions,
             cells,
             nodes,
             table,
-        } = judged;
+        } = memories;
         let words = drop_table::<K>();
         table[0] = words[0];
         table[1] = words[1];
         Bench {
             engine: Engine::open(actions, cells, nodes),
-            table: TableInForce::of(table, 2),
+            table: TableInForce {
+                words: table,
+                count: 2,
+                kind: PhantomData,
+            },
         }
     }
 }

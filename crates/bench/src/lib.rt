@@ -3,9 +3,7 @@
 
 mod bench;
 mod installing;
-mod judged;
-mod judging;
+mod memories;
 
 pub use bench::Bench;
-pub use judged::{Judged, Judgement};
-pub use judging::judge;
+pub use memories::Memories;

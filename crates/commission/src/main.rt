@@ -4,7 +4,7 @@
 use format::TEXT_LIMIT;
 use reports::report;
 use std::io;
-use std::io::Read;
+use std::io::{ErrorKind, Read, Write};
 
 fn main(rt: HostRuntime) -> io::Result<()> {
     let mut text = Vec::new(rt.alloc());
@@ -12,6 +12,11 @@ fn main(rt: HostRuntime) -> io::Result<()> {
     rt.stdin()
         .take(TEXT_LIMIT as u64 + 1)
         .read_to_end(&mut text)?;
-    let record = report(rt.alloc(), &text)?;
-    rt.print(record)
+    // Without memory a report says how much it needs.
+    let (Ok(needed) | Err(needed)) = report(&text, &mut []);
+    let mut record = vec![in rt.alloc(); 0; needed]?;
+    let Ok(length) = report(&text, &mut record) else {
+        return Err(io::Error::from(ErrorKind::OutOfMemory));
+    };
+    rt.stdout().write_all(&record[..length])
 }

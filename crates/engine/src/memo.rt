@@ -39,8 +39,6 @@ pub struct PackedEntry {
     pub result: u32,
 }
 
-const _: () = prove!(size_of::<Memo>() == 28 * PLACES);
-
 impl From<Entry> for PackedEntry {
     ghost from_gives = { λ entry packed. packed ≡ packed_entry entry };
 
@@ -141,7 +139,7 @@ impl Memo {
         ensures memo { MatchResult result (λ _. self.new.entries ≡ self.old.entries) (λ _. NothingWritten self.new.entries) }
     {
         if answer.is_err() {
-            *self = Memo::empty();
+            self.clear();
         }
         answer
     }

@@ -1,7 +1,7 @@
 // Every refusal by its layer, and what a person is shown of it.
 #![tactic(auto)]
 
-ghost use Rattle.std.specs.Prelude.{◌≡◌, Some};
+ghost use Rattle.std.specs.Prelude.{◌≡◌};
 ghost use Rattle.faults.specs.Lines.{refused_line};
 ghost use Rattle.faults.specs.Shows.{shown, token_shown, grammar_shown, check_shown, compile_shown, bench_shown, store_shown, table_shown, frame_shown};
 
@@ -16,8 +16,6 @@ pub use layers::{
 use numerals::Decimal;
 use pages::{Page, Print};
 pub use refusals::zeros_if_refused;
-use std::error::Error;
-use std::fmt;
 
 // What a person is shown of a refusal: its number, the layer that refused, and the place.
 // Numbers and no enums, since a person looks these up in the list of refusals; the code tells refusals apart by the faults.
@@ -41,21 +39,6 @@ impl Shown {
 }
 
 // The line by which a refusal is told.
-impl fmt::Display for Shown {
-    ghost output = { λ s. Some (refused_line s) };
-
-    fn fmt<W: fmt::Write>(&self, f: &mut fmt::Formatter<W>) -> fmt::Result {
-        let number = Decimal(self.number as u64);
-        let layer = Decimal(self.layer as u64);
-        let place = Decimal(self.place as u64);
-        writeln!(f, "refused {number} layer {layer} place {place}")
-    }
-}
-
-// An error to print is what is shown of a fault. Seven faults with a `Display` each would be no plainer: all would print this.
-impl Error for Shown {}
-
-// The same line on a page.
 impl Print for Shown {
     ghost output = { refused_line };
 

@@ -1,18 +1,14 @@
 // What words say to a person.
 #![tactic(auto)]
 
-ghost use Rattle.std.specs.Prelude.{◌≡◌, Some};
+ghost use Rattle.std.specs.Prelude.{◌≡◌};
 ghost use Rattle.pages.specs.Pages.{Says};
 ghost use Rattle.lines.specs.Lines.{setting, weight_said, head_said, end_said, table_word_said, frame_word_said, table_lines, spaced_hex, words_line};
 
-mod bytes;
-
-pub use bytes::{push_line, push_number};
 use format::{FIELDS, Word, field_name};
 use frames::FRAME_KIND;
-use numerals::{Decimal, Hex, write_each};
+use numerals::{Decimal, Hex};
 use pages::{Page, Print, print_each};
-use std::fmt;
 use tables::TableKind;
 
 // A field and a value between a label and a sign.
@@ -56,33 +52,12 @@ fn print_end(page: &mut Page<'_>, bits: u32)
 #[derive(Clone, Copy)]
 struct TableSaid(u32);
 
-// Three types here owe `write_each` their `From`, and each writes it: the repository's own macros may write no impl.
+// Three types here owe `print_each` their `From`, and each writes it: the repository's own macros may write no impl.
 impl From<u32> for TableSaid {
     ghost from_gives = { λ bits w. w.0 ≡ bits };
 
     fn from(bits: u32) -> TableSaid {
         TableSaid(bits)
-    }
-}
-
-impl fmt::Display for TableSaid {
-    ghost output = { λ w. Some (table_word_said w.0) };
-
-    fn fmt<W: fmt::Write>(&self, f: &mut fmt::Formatter<W>) -> fmt::Result {
-        let word = Word::from(self.0);
-        let name = field_name(word.field);
-        let value = Decimal(word.value as u64);
-        match TableKind::try_from(word.kind) {
-            Ok(TableKind::Head) => {
-                let matches = Decimal(word.field as u64);
-                write!(f, "\nrow with {matches} matches and {value} emissions:")
-            }
-            Ok(TableKind::Match) => write!(f, " if {name}={value}"),
-            Ok(TableKind::Weight) => write!(f, " at weight {value}"),
-            Ok(TableKind::Set) => write!(f, " set {name}:={value}"),
-            Ok(TableKind::End) => write!(f, "\nend of {value} rows\n"),
-            Err(_) => f.write_str(" ?"),
-        }
     }
 }
 
@@ -105,15 +80,6 @@ impl Print for TableSaid {
 #[derive(Clone, Copy, Debug, PartialEq, Eq)]
 pub struct Table<'a>(pub &'a [u32]);
 
-impl fmt::Display for Table<'_> {
-    ghost output = { λ t. Some (table_lines t.0.now) };
-
-    fn fmt<W: fmt::Write>(&self, f: &mut fmt::Formatter<W>) -> fmt::Result {
-        write!(f, "table of {} words", Decimal(self.0.len() as u64))?;
-        write_each::<_, TableSaid>(f, self.0)
-    }
-}
-
 impl Print for Table<'_> {
     ghost output = { λ t. table_lines t.0.now };
 
@@ -134,22 +100,6 @@ impl From<u32> for FrameSaid {
 
     fn from(bits: u32) -> FrameSaid {
         FrameSaid(bits)
-    }
-}
-
-impl fmt::Display for FrameSaid {
-    ghost output = { λ w. Some (frame_word_said w.0) };
-
-    fn fmt<W: fmt::Write>(&self, f: &mut fmt::Formatter<W>) -> fmt::Result {
-        let word = Word::from(self.0);
-        let value = Decimal(word.value as u64);
-        if word.kind == FRAME_KIND && word.field < FIELDS {
-            write!(f, " {}={value}", field_name(word.field))
-        } else if word.kind == u32::from(TableKind::Weight) {
-            write!(f, " at weight {value}")
-        } else {
-            f.write_str(" ?")
-        }
     }
 }
 
@@ -180,14 +130,6 @@ impl From<u32> for SpacedHex {
     }
 }
 
-impl fmt::Display for SpacedHex {
-    ghost output = { λ w. Some (spaced_hex w.0) };
-
-    fn fmt<W: fmt::Write>(&self, f: &mut fmt::Formatter<W>) -> fmt::Result {
-        write!(f, " {}", Hex(self.0))
-    }
-}
-
 impl Print for SpacedHex {
     ghost output = { λ w. spaced_hex w.0 };
 
@@ -202,18 +144,6 @@ impl Print for SpacedHex {
 pub struct Line<'a> {
     pub title: &'a str,
     pub words: &'a [u32],
-}
-
-impl fmt::Display for Line<'_> {
-    ghost output = { λ l. Some (words_line l.title.now l.words.now) };
-
-    fn fmt<W: fmt::Write>(&self, f: &mut fmt::Formatter<W>) -> fmt::Result {
-        f.write_str(self.title)?;
-        write_each::<_, SpacedHex>(f, self.words)?;
-        f.write_str(":")?;
-        write_each::<_, FrameSaid>(f, self.words)?;
-        f.write_str("\n")
-    }
 }
 
 impl Print for Line<'_> {

@@ -1,28 +1,23 @@
 // Numbers as text, for the records that people read.
 #![tactic(auto)]
 
-ghost use Rattle.std.specs.Prelude.{Some, decimal};
-ghost use Rattle.numerals.specs.Numerals.{hex_word};
+ghost use Rattle.std.specs.Prelude.{◌≡◌, ◌%◌, decimal};
+ghost use Rattle.numerals.specs.Numerals.{hex_digit, hex_word};
 
-mod each;
-mod printed;
-
-pub use each::write_each;
-use std::fmt;
+use pages::{Page, Print};
 
 // A number in decimal digits, without leading zeros.
-// Its own writer, by division and remainder: a rule of the project.
 #[derive(Clone, Copy, Debug, PartialEq, Eq, PartialOrd, Ord, Hash)]
 pub struct Decimal(pub u64);
 
-impl fmt::Display for Decimal {
-    ghost output = { λ n. Some (decimal n.0) };
+impl Print for Decimal {
+    ghost output = { λ n. decimal n.0 };
 
-    fn fmt<W: fmt::Write>(&self, f: &mut fmt::Formatter<W>) -> fmt::Result {
+    fn print(&self, page: &mut Page<'_>) {
         if self.0 >= 10 {
-            Decimal(self.0 / 10).fmt(f)?;
+            Decimal(self.0 / 10).print(page);
         }
-        f.write_char((b'0' + (self.0 % 10) as u8) as char)
+        page.push(b'0' + (self.0 % 10) as u8)
     }
 }
 
@@ -30,11 +25,32 @@ impl fmt::Display for Decimal {
 #[derive(Clone, Copy, Debug, PartialEq, Eq, PartialOrd, Ord, Hash)]
 pub struct Hex(pub u32);
 
-impl fmt::Display for Hex {
-    ghost output = { λ word. Some (hex_word word.0) };
+// The last hexadecimal digit of a number.
+fn last_digit(n: u32) -> u8
+    ensures { result ≡ hex_digit (n % 16) }
+{
+    let digit = (n % 16) as u8;
+    if digit < 10 {
+        b'0' + digit
+    } else {
+        b'A' + (digit - 10)
+    }
+}
 
-    fn fmt<W: fmt::Write>(&self, f: &mut fmt::Formatter<W>) -> fmt::Result {
+impl Print for Hex {
+    ghost output = { λ word. hex_word word.0 };
+
+    fn print(&self, page: &mut Page<'_>) {
         let word = self.0;
-        write!(f, "{word:08X}")
+        page.push_bytes(&[
+            last_digit(word >> 28),
+            last_digit(word >> 24),
+            last_digit(word >> 20),
+            last_digit(word >> 16),
+            last_digit(word >> 12),
+            last_digit(word >> 8),
+            last_digit(word >> 4),
+            last_digit(word),
+        ])
     }
 }

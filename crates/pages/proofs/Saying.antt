@@ -1,5 +1,5 @@
 -- What is said on a page in several steps.
-use Rattle.std.proofs.Common.{◌≡◌, ℕ, ◌+◌, ◌<◌, ◌≤◌, min, List, [], ◌++◌, length, take, drop, set, ◌∷◌, Result, Ok, Err, refl, ap, sym, ◌∙◌, inl, inr, arith, length-append, subst}
+use Rattle.std.proofs.Common.{◌≡◌, ℕ, ◌+◌, ◌<◌, ◌≤◌, min, List, [], ◌++◌, length, take, drop, set, ◌∷◌, Result, Ok, Err, IfOk, refl, ap, sym, ◌∙◌, inl, inr, arith, length-append, subst}
 use Rattle.std.proofs.lemmas.Bool.{cases_lt}
 use Rattle.std.proofs.lemmas.List.{take_all, drop_all, append-nil}
 use Rattle.pages.specs.declared.page.Page.{Page}
@@ -80,20 +80,19 @@ unfolding over
 part_of_it text memory room =
     ap (λ t. take (length memory) text ++ t) (drop_all (length text) memory room) ∙ append-nil (take (length memory) text)
 
--- a page from its first byte to the answer
-pub printed :
+finished :
     {a b : Page} {text : List ℕ} {r : Result ℕ ℕ} →
     a.said ≡ 0 →
     Says a text b →
     Answered b.said (length b.memory.now) r →
     Printed text a.memory.now r b.memory.now
-printed {a} {b} {text} blank s (all room) =
+finished {a} {b} {text} blank s (all room) =
     let stays = ap length (stands s) ∙ onto_length a.said text a.memory.now
     in let size : b.said ≡ length text = omega (arith, s.count, b.small, stays)
     in let is = stands s ∙ ap (λ n. onto n text a.memory.now) blank ∙ sym (from_front text a.memory.now)
     in let fits : length text ≤ length a.memory.now = omega arith
     in printed_of_eq (ap (λ n. Ok n) (sym size)) (sym (is ∙ all_of_it text a.memory.now fits)) (Printed.fits fits)
-printed {a} {b} {text} blank s (part room) =
+finished {a} {b} {text} blank s (part room) =
     let stays = ap length (stands s) ∙ onto_length a.said text a.memory.now
     in let size : b.said ≡ min most (length text) = omega (arith, s.count)
     in let is = stands s ∙ ap (λ n. onto n text a.memory.now) blank ∙ sym (from_front text a.memory.now)
@@ -103,6 +102,18 @@ printed {a} {b} {text} blank s (part room) =
     (sym (is ∙ part_of_it text a.memory.now (omega arith)))
     (Printed.short short)
 
+-- a page from its first byte to the answer, and the memory that was lent for it
+pub printed :
+    {a b : Page} {text was is : List ℕ} {r : Result ℕ ℕ} →
+    a.said ≡ 0 →
+    a.memory.now ≡ was →
+    Says a text b →
+    Answered b.said (length b.memory.now) r →
+    b.memory.now ≡ is →
+    Printed text was r is
+printed {b} {text} {is} {r} blank before s answer after =
+    printed_of_eq refl after (subst (λ m. Printed text m r b.memory.now) before (finished blank s answer))
+
 -- one text has one answer, and leaves one memory
 pub printed_once :
     (text memory is also : List ℕ) (r q : Result ℕ ℕ) → Printed text memory r is → Printed text memory q also → (q ≡ r) × (also ≡ is)
@@ -110,3 +121,8 @@ printed_once text memory is also r q (fits a) (fits b) = (refl, refl)
 printed_once text memory is also r q (short a) (short b) = (refl, refl)
 printed_once text memory is also r q (fits a) (short b) = absurd (omega arith)
 printed_once text memory is also r q (short a) (fits b) = absurd (omega arith)
+
+-- what stands there does not pass the memory
+pub printed_within : {text was is : List ℕ} {r : Result ℕ ℕ} → Printed text was r is → IfOk r (λ n. n ≤ length was)
+printed_within (fits room) = room
+printed_within (short room) = tt

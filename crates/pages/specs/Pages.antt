@@ -26,3 +26,11 @@ pub data Answered (said room : ℕ) : Result ℕ ℕ → Type 0 where
 pub data Printed (text memory : List ℕ) : Result ℕ ℕ → List ℕ → Type 0 where
   fits : length text ≤ length memory → Printed text memory (Ok (length text)) (text ++ drop (length text) memory)
   short : length memory < length text → Printed text memory (Err (min most (length text))) (take (length memory) text)
+
+-- something of which this holds is said on a page
+abbrev pub SaysSome : (List ℕ → Type 0) → Page → Page → Type 0
+SaysSome P old new = (text : List ℕ) × P text × Says old text new
+
+-- something of which this holds stands in lent memory, or as much of it as fits
+abbrev pub PrintedSome : (List ℕ → Type 0) → List ℕ → Result ℕ ℕ → List ℕ → Type 0
+PrintedSome P was r is = (text : List ℕ) × P text × Printed text was r is

@@ -6,11 +6,11 @@ use Rattle.grammar.specs.Reading.{Written}
 use Rattle.grammar.proofs.Determined.{accepted_or_refused, one_fault, one_result}
 use Rattle.policy.specs.Reading.{Rejected, Read, OnlyAnswer}
 
-not_rejected : {text : List ℕ} {room n : ℕ} {was is : List ℕ} {e : GrammarFault} → length text ≤ text_limit → Written text room n was is → Rejected text room e → ⊥
+pub not_rejected : {text : List ℕ} {room n : ℕ} {was is : List ℕ} {e : GrammarFault} → length text ≤ text_limit → Written text room n was is → Rejected text room e → ⊥
 not_rejected h w (Rejected.too_long k) = omega arith
 not_rejected h w (Rejected.refused k r) = accepted_or_refused w r
 
-one_rejection : {text : List ℕ} {room : ℕ} {e f : GrammarFault} → Rejected text room e → Rejected text room f → e ≡ f
+pub one_rejection : {text : List ℕ} {room : ℕ} {e f : GrammarFault} → Rejected text room e → Rejected text room f → e ≡ f
 one_rejection (Rejected.too_long h) (Rejected.too_long k) = refl
 one_rejection (Rejected.too_long h) (Rejected.refused k r) = absurd (omega arith)
 one_rejection (Rejected.refused h r) (Rejected.too_long k) = absurd (omega arith)

@@ -2,3 +2,4 @@ mod EmittedLines
 mod Widths
 mod Frames
 mod Records
+mod FileWords

@@ -1,40 +1,38 @@
 -- The whole record.
-use Rattle.std.proofs.Common.{◌≡◌, ℕ, ◌*◌, List, ◌++◌, length, sym, ap, ◌∙◌, subst}
+use Rattle.std.proofs.Common.{◌≡◌, ℕ, ◌*◌, List, ◌++◌, length, subst}
 use Rattle.faults.specs.Lines.{refused_line}
 use Rattle.faults.specs.Shows.{table_shown}
 use Rattle.faults.specs.declared.layers.TableFault.{TableFault}
 use Rattle.faults.specs.declared.layers.TableFault.TheVariants.{Illegal, Full}
 use Rattle.weights.specs.Weights.{Ops}
 use Rattle.tables.specs.Checking.{Stops}
-use Rattle.tables.specs.Rows.{Row, LegalRows, table_words}
-use Rattle.lines.specs.Lines.{table_lines}
+use Rattle.tables.specs.Rows.{LegalTable}
 use Rattle.tables.specs.Emits.{sent_length}
+use Rattle.lines.specs.Lines.{table_lines}
+use Rattle.pages.specs.declared.page.Page.{Page}
+use Rattle.pages.specs.Pages.{Says, SaysSome}
+use Rattle.pages.proofs.Saying.{◌>>◌}
 use Rattle.replays.specs.Replays.{FramesSaid, Record}
 
 -- the table and then the frames
 pub recorded :
-    (o : Ops) (rows : List Row) (table frames mid is : List ℕ) (room : ℕ) →
-    LegalRows o rows →
-    table ≡ table_words rows →
-    mid ≡ table_lines table →
+    {p q r : Page} (o : Ops) (table frames : List ℕ) (room : ℕ) (legal : LegalTable o table) →
     room ≡ length table * sent_length →
-    (said : List ℕ) × FramesSaid o rows room frames said × (is ≡ mid ++ said) →
-    Record o table frames is
-recorded o rows table frames mid is room legal e f r t =
-    let P : ℕ → Type 0 = λ n. FramesSaid o rows n frames t.0
-    in let Q : List ℕ → Type 0 = λ text. Record o table frames text
-    in let whole = Record.replayed rows t.0 legal e (subst P r t.1)
-    in subst Q (sym (t.2 ∙ ap (λ m. m ++ t.0) f)) whole
+    Says p (table_lines table) q →
+    SaysSome (FramesSaid o legal.0 room frames) q r →
+    SaysSome (Record o table frames) p r
+recorded o table frames room legal e s (said, holds, t) =
+    let P : ℕ → Type 0 = λ n. FramesSaid o legal.0 n frames said
+    in (table_lines table ++ said, Record.replayed legal.0 said legal.1 legal.2 (subst P e holds), s >> t)
 
 -- the place where a table is refused
 abbrev pub RefusedAt : Ops → List ℕ → TableFault → Type 0
 RefusedAt o ws fault = elim fault [ Illegal i ↦ Stops o ws i | Full ↦ ⊥ ]
 
 pub table_refused :
-    (o : Ops) (table frames text : List ℕ) (fault : TableFault) →
+    {p q : Page} (o : Ops) (table frames : List ℕ) (fault : TableFault) →
     RefusedAt o table fault →
-    text ≡ refused_line (table_shown fault) →
-    Record o table frames text
-table_refused o table frames text (Illegal i) stops e =
-    let Q : List ℕ → Type 0 = λ t. Record o table frames t in subst Q (sym e) (Record.no_table i stops)
-table_refused o table frames text Full stops e = absurd stops
+    Says p (refused_line (table_shown fault)) q →
+    SaysSome (Record o table frames) p q
+table_refused o table frames (Illegal i) stops s = (refused_line (table_shown (Illegal i)), Record.no_table i stops, s)
+table_refused o table frames Full stops s = absurd stops

@@ -1,3 +1,4 @@
 pub mod Bytes
 pub mod Kinds
 pub mod Replays
+pub mod Memory

@@ -18,10 +18,6 @@ use Rattle.replays.specs.declared.kind.Kind.{Kind}
 use Rattle.replays.specs.declared.kind.Kind.TheVariants.{Reach, Cost}
 use Rattle.lines.specs.Lines.{table_lines, frame_line, emit_line}
 
--- a text to which what is allowed to be said was added
-abbrev pub Adds : (List ℕ → Type 0) → List ℕ → List ℕ → Type 0
-Adds Said was is = (said : List ℕ) × Said said × (is ≡ was ++ said)
-
 -- a line for each emitted frame in these words
 abbrev pub emit_lines : List ℕ → List ℕ
 emit_lines ws = flat_map emit_line (first_chunks sent_length (length ws / sent_length) ws)

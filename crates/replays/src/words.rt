@@ -1,9 +1,8 @@
 // The words that a file holds.
-ghost use Rattle.std.specs.Prelude.{◌≡◌, ◌<◌, ◌≤◌, [], ◌∷◌, length, IfOk};
+ghost use Rattle.std.specs.Prelude.{◌≡◌, ◌<◌, ◌≤◌, [], ◌∷◌, length};
 ghost use Rattle.replays.specs.Bytes.{words_of};
 
 use format::KIND_UNIT;
-use std::alloc::{AllocError, Global};
 
 const WORD_BYTES: usize = 4;
 
@@ -20,13 +19,21 @@ fn word_of(bytes: &[u8]) -> u32
     }
 }
 
-// The words of these bytes.
-pub(crate) fn read_words(heap: Global, bytes: &[u8]) -> Result<Vec<u32>, AllocError>
-    ensures { IfOk result (λ v. v.items ≡ words_of bytes.now) }
+// How many words these bytes are.
+pub(crate) fn count_words(bytes: &[u8]) -> usize
+    ensures { result ≡ length (words_of bytes.now) }
 {
-    let mut words = Vec::new(heap);
+    bytes.len().div_ceil(WORD_BYTES)
+}
+
+// Writes the words of these bytes.
+pub(crate) fn read_words(bytes: &[u8], words: &mut [u32])
+    requires { length words.old ≡ length (words_of bytes.now) }
+    ensures { words.new ≡ words_of bytes.now }
+{
+    let mut count = 0;
     for four in bytes.chunks(WORD_BYTES) {
-        words.push(word_of(four))?;
+        words[count] = word_of(four);
+        count += 1;
     }
-    Ok(words)
 }

@@ -1,8 +1,10 @@
 -- What holds of every chain of steps. Assumes nothing.
-use Rattle.std.proofs.Common.{◌≡◌, ℕ, ◌*◌, ◌≤◌, List, [], ◌∷◌, ◌++◌, length, Bool, true, false, Some, Option, sym, refl, ap, ◌∙◌, subst, arith, length-append, append-nil, append_assoc, true≢false}
+use Rattle.std.proofs.Common.{◌≡◌, ℕ, ◌*◌, ◌<◌, ◌≤◌, List, [], ◌∷◌, ◌++◌, length, Bool, true, false, Some, Option, sym, refl, ap, ◌∙◌, subst, arith, length-append, append-nil, append_assoc, true≢false}
 use Rattle.std.specs.Prelude.{◌↔◌}
 use Rattle.std.specs.List.{flat_map}
 use Rattle.format.specs.Words.{value_end, word}
+use Rattle.faults.specs.declared.layers.FrameFault.TheVariants.{NoRoom}
+use Rattle.faults.specs.declared.layers.BenchFault.TheVariants.{Frame as FrameFaulty}
 use Rattle.frames.specs.Frames.{frame_words}
 use Rattle.format.specs.Policy.{Policy}
 use Rattle.checking.proofs.Determinism.{determined}
@@ -30,7 +32,7 @@ use Rattle.stored.proofs.Numbers.{each_in, each_weaker}
 use Rattle.stored.proofs.Growth.{whole_after, formed_after, diagram_grown}
 use Rattle.steps.specs.States.{State, TableOf, opened}
 use Rattle.steps.specs.Sound.{Lists, Sound}
-use Rattle.steps.specs.Steps.{Call, Install, Forward, Reply, Word, Installed, Written, Refused, Builds, of_policy, of_union, of_sequence, of_star, not_held, full, no_frame, Sends, Step, refused, built, installed, sent, with_stored, with_table}
+use Rattle.steps.specs.Steps.{Call, Install, Forward, Reply, Word, Installed, Written, Refused, Refuses, Builds, of_policy, of_union, of_sequence, of_star, not_held, full, no_frame, Sends, Step, refused, built, installed, sent, with_stored, with_table}
 use Rattle.steps.specs.Ledgers.{Ledger, no_entries, walk_of, latest, stands_for, entered, Enters, by_compile, by_union, by_sequence, by_star, by_install, by_forward, by_refused, Event, Account, done, next}
 use Rattle.steps.specs.Promises.{ItsWord, Emits, Forwards, Keeps, Stays}
 use Rattle.steps.specs.Law.{Law as Lawful}
@@ -38,7 +40,7 @@ use Rattle.steps.proofs.Stores.{diagram_formed, one_word_for_equal}
 use Rattle.steps.proofs.Building.{same_diagram, policy_made, union_made, sequence_made, star_made, built_formed, built_inside}
 use Rattle.steps.proofs.Meanings.{union_alike, sequence_alike, star_alike}
 use Rattle.steps.proofs.Forwarding.{its_rows, same_frame, frame_values, answer_emits, one_list, answer_of, table_emits}
-use Rattle.steps.proofs.Refusals.{exactly, sent_fits, length_sent}
+use Rattle.steps.proofs.Refusals.{exactly, sent_fits, length_sent, too_many}
 use Rattle.steps.proofs.Opening.{opened_sound, drop_listed}
 
 -- the word is held, and its diagram's weights are m
@@ -119,7 +121,7 @@ step_keeps o s c r s' (built {m = m} b g) = keeps_of s (with_stored s m) g.adds.
 step_keeps o s c r s' (installed {d = d} p k) = keeps_same s (with_table s (table_words (rows_of d))) refl
 step_keeps o s c r s' (sent h k) = keeps_same s s refl
 
-pub install_is : (o : Ops) (s : State) (l : Ledger) (x : ℕ) {n : ℕ} (l' : Ledger) → Enters o s l (Install x) (Installed n) l' → l' ≡ record { entries = l.entries; in_force = stands_for o s l x }
+install_is : (o : Ops) (s : State) (l : Ledger) (x : ℕ) {n : ℕ} (l' : Ledger) → Enters o s l (Install x) (Installed n) l' → l' ≡ record { entries = l.entries; in_force = stands_for o s l x }
 install_is o s l x l' by_install = refl
 
 own_entry : (w : ℕ) (m : Meaning) (es : List (ℕ × Meaning)) (x : Meaning) → Alike m (latest ((w, m) ∷ es) w x)
@@ -183,12 +185,12 @@ module _ {o : Ops} (L : Laws o) where
   stands_alike s l h w d p = subst (λ (x : Option Diagram). Alike (weigh o d) (latest l.entries w (walk_of o x))) (sym p) (latest_alike s.stored w d p l.entries h)
 
   -- the entry that a call makes is what the diagram built weighs
-  pub record Entry (r : Diagram) (w : ℕ) (l l' : Ledger) : Type 0 where
+  record Entry (r : Diagram) (w : ℕ) (l l' : Ledger) : Type 0 where
     pub meaning : Meaning
     pub is : l' ≡ entered w meaning l
     pub weighs : Alike (weigh o r) meaning
 
-  pub entry : (s : State) (l : Ledger) → Good o s l → (c : Call) (r : Diagram) (asks : List Request) (w : ℕ) (l' : Ledger) → Builds o s.stored c r asks → Enters o s l c (Word w) l' → Entry r w l l'
+  entry : (s : State) (l : Ledger) → Good o s l → (c : Call) (r : Diagram) (asks : List Request) (w : ℕ) (l' : Ledger) → Builds o s.stored c r asks → Enters o s l c (Word w) l' → Entry r w l l'
   entry s l G c r asks w l' (of_policy {ws = ws} {p = p} a b) (by_compile {p = q} {m = m} a' x) =
       record {
         meaning = m;
@@ -276,8 +278,8 @@ module _ {o : Ops} (L : Laws o) where
         emitted = A.0;
         emits = emits;
         one_list = λ xs h. one_list o m v xs A.0 h emits;
-        step = λ n h. sent table (sends n h);
-        only = λ n r s' h k. only n h (frame_words v) refl r s' k;
+        fits = λ n h. record { step = sent table (sends n h); only = λ r s' k. only n h (frame_words v) refl r s' k };
+        short = λ n h. record { step = refused (too_short n h); only = λ r s' k. ((exactly L s F.table (Forward (frame_words v) n) r s' k (FrameFaulty NoRoom)).1 (too_short n h), unchanged r s' k) };
       }
     where
       A : (xs : List Sent) × Answer o (rows_of F.table.listed) v xs
@@ -294,6 +296,14 @@ module _ {o : Ops} (L : Laws o) where
         where
           long : length (flat_map sent_words A.0) ≡ sent_length * length A.0
           long = length_sent A.0 (λ x j. table_emits L F.table.listed F.table.formed v (frame_values v i) x.frame (λ z. (A.1.sound x j).1 (sym (A.1.sound x j).0 ∙ z)))
+
+      too_short : (n : ℕ) → n < sent_length * length A.0 → Refuses o s (Forward (frame_words v) n) (FrameFaulty NoRoom)
+      too_short n h = no_frame table (v, frame_values v i, refl, too_many o (rows_of F.table.listed) v A.0 A.1 n h)
+
+      unchanged : {ws : List ℕ} {n : ℕ} (r : Reply) (s' : State) → Step o s (Forward ws n) r s' → s' ≡ s
+      unchanged r s' (refused h) = refl
+      unchanged r s' (built b g) = elim b [ ]
+      unchanged r s' (sent h k) = refl
 
       only : (n : ℕ) → sent_length * length A.0 ≤ n → (ws : List ℕ) → ws ≡ frame_words v → (r : Reply) (s' : State) → Step o s (Forward ws n) r s' → (r ≡ Written (flat_map sent_words A.0)) × (s' ≡ s)
       only n h ws e r s' (refused (not_held u)) = elim u [ ]

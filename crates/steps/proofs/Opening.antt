@@ -10,9 +10,9 @@ use Rattle.meaning.specs.Diagrams.{Node, Formed}
 use Rattle.meaning.specs.Constructions.{drop_diagram}
 use Rattle.requests.specs.Requests.{Request, action, cell, node}
 use Rattle.stores.specs.Numbers.{Numbered}
-use Rattle.stored.specs.Stored.{Stored, Has}
+use Rattle.stored.specs.Stored.{Stored, Rooms, Has}
 use Rattle.stored.specs.Whole.{Whole}
-use Rattle.steps.specs.States.{rooms_of, opened}
+use Rattle.steps.specs.States.{opened}
 use Rattle.steps.specs.Sound.{Lists, Sound}
 
 abbrev empty : Stored
@@ -27,10 +27,10 @@ nothing_has (action a) (n, e) = none_at n a e
 nothing_has (cell a w l) (n, e) = none_at n _ e
 nothing_has (node f m y z) (n, e) = none_at n (Node f m y z) e
 
-empty_whole : (z : Sizes) → Whole (rooms_of z) empty
-empty_whole z =
+empty_whole : (r : Rooms) → Whole r empty
+empty_whole r =
     record {
-      once = record { actions = λ m n r e k. absurd (none_at m r e); leaves = λ m n r e k. absurd (none_at m r e); nodes = λ m n r e k. absurd (none_at m r e) };
+      once = record { actions = λ m n x e k. absurd (none_at m x e); leaves = λ m n x e k. absurd (none_at m x e); nodes = λ m n x e k. absurd (none_at m x e) };
       fits = record { actions = omega arith; leaves = omega arith; nodes = omega arith };
       no_drop = λ n e. none_at n [] e;
       no_leaf = λ l n e. none_at n _ e;
@@ -50,7 +50,7 @@ pub opened_sound : (o : Ops) (z : Sizes) → AllFit z → Sound o (opened z)
 opened_sound o z h =
     record {
       stores = record {
-        whole = empty_whole z;
+        whole = empty_whole (opened z).rooms;
         formed = λ q k. absurd (nothing_has q k);
         few = let a = h.actions_fit.1 in let b = h.cells_fit.1 in let c = h.nodes_fit.1 in omega (arith, a, b, c);
       };

@@ -1,5 +1,5 @@
 -- A call always has a reply. Assumes nothing.
-use Rattle.std.proofs.Common.{◌≡◌, ℕ, zero, suc, ◌*◌, ◌<◌, ◌≤◌, ◌≢◌, ◌⊎◌, List, [], ◌∷◌, map, length, get_or, Some, None, Option, Result, Ok, Err, sym, refl, ap, ◌∙◌, subst, inl, inr, arith}
+use Rattle.std.proofs.Common.{◌≡◌, ℕ, zero, suc, ◌*◌, ◌<◌, ◌≤◌, ◌⊎◌, List, [], ◌∷◌, map, length, get_or, Some, None, Option, Result, Ok, Err, sym, refl, ap, ◌∙◌, subst, inl, inr, arith}
 use lib.ListN.{length-map}
 use Rattle.std.specs.List.{flat_map}
 use Rattle.format.specs.Fields.{fields, range}
@@ -15,7 +15,7 @@ use Rattle.frames.proofs.Words.{words_from_places}
 use Rattle.checking.specs.Checking.{Accepted}
 use Rattle.weights.specs.Weights.{Ops, Laws}
 use Rattle.tables.specs.Rows.{Row, table_words}
-use Rattle.tables.specs.Emits.{Sent, sent_words, sent_length, emits, Answer, In}
+use Rattle.tables.specs.Emits.{Sent, sent_words, sent_length, Answer}
 use Rattle.tables.specs.Forwards.{Refused as FrameRefused}
 use Rattle.listing.specs.Rows.{rows_of}
 use Rattle.meaning.specs.Decide.{decide}
@@ -40,7 +40,7 @@ use Rattle.steps.proofs.Stores.{diagram_formed}
 use Rattle.steps.proofs.Law.{ends, opened_good}
 use Rattle.steps.proofs.Performing.{accounted}
 use Rattle.steps.proofs.Forwarding.{in_range, answer_of, table_emits}
-use Rattle.steps.proofs.Refusals.{fault_once, exactly, length_sent}
+use Rattle.steps.proofs.Refusals.{fault_once, exactly, length_sent, too_many}
 
 -- a step with this call
 abbrev Going : Ops → State → Call → Type 0
@@ -189,22 +189,11 @@ module _ {o : Ops} (L : Laws o) (s : State) (S : Sound o s) where
       A : (xs : List Sent) × Answer o (rows_of S.table.listed) v xs
       A = answer_of L S.table.listed S.table.formed v (in_range v r)
 
-      some : (x : Sent) → In x A.0 → emits o (rows_of S.table.listed) v x.frame ≢ o.zero
-      some x i z = (A.1.sound x i).1 (sym (A.1.sound x i).0 ∙ z)
-
       long : length (flat_map sent_words A.0) ≡ sent_length * length A.0
-      long = length_sent A.0 (λ x i. table_emits L S.table.listed S.table.formed v r x.frame (some x i))
-
-      emitted : (xs : List Sent) → ((x : Sent) → In x xs → emits o (rows_of S.table.listed) v x.frame ≢ o.zero) → (t : Frame) → In t (map (λ x. x.frame) xs) → emits o (rows_of S.table.listed) v t ≢ o.zero
-      emitted [] h t i = absurd i
-      emitted (x ∷ xs) h t (inl p) = subst (λ (u : Frame). emits o (rows_of S.table.listed) v u ≢ o.zero) (sym p) (h x (inl refl))
-      emitted (x ∷ xs) h t (inr i) = emitted xs (λ y j. h y (inr j)) t i
+      long = length_sent A.0 (λ x i. table_emits L S.table.listed S.table.formed v r x.frame (λ z. (A.1.sound x i).1 (sym (A.1.sound x i).0 ∙ z)))
 
       go : (n < sent_length * length A.0) ⊎ (sent_length * length A.0 ≤ n) → Going o s (Forward ws n)
-      go (inl l) = (Refused (FrameFaulty NoRoom), s, refused (no_frame table_there (v, r, e, record { frames = map (λ x. x.frame) A.0; ascending = A.1.ascending; emitted = emitted A.0 some; many = many })))
-        where
-          many : n < sent_length * length (map (λ x. x.frame) A.0)
-          many = let k = length-map A.0 (λ x. x.frame) in omega (arith, l, k)
+      go (inl l) = (Refused (FrameFaulty NoRoom), s, refused (no_frame table_there (v, r, e, too_many o (rows_of S.table.listed) v A.0 A.1 n l)))
       go (inr l) = (
         Written (flat_map sent_words A.0),
         s,

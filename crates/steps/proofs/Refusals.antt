@@ -9,11 +9,12 @@ use Rattle.frames.proofs.Words.{length_words}
 use Rattle.weights.specs.Weights.{Ops, Laws}
 use Rattle.weights.specs.Order.{In}
 use Rattle.tables.specs.Rows.{Row, table_words}
-use Rattle.tables.specs.Emits.{Sent, sent_words, sent_length, emits, Ascending, In as InSent}
+use Rattle.tables.specs.Emits.{Sent, sent_words, sent_length, emits, Answer, Ascending, In as InSent}
 use Rattle.tables.proofs.Order.{asymmetric}
-use Rattle.tables.specs.Forwards.{Refused as FrameRefused}
+use Rattle.tables.specs.Forwards.{Overfull, Refused as FrameRefused}
 use Rattle.listing.specs.Rows.{rows_of}
 use Rattle.meaning.specs.Decide.{Tri, below, level, above, order}
+use Rattle.meaning.specs.Leaves.{Frame}
 use Rattle.meaning.specs.Diagrams.{Diagram, Formed}
 use Rattle.faults.specs.declared.layers.StoreFault.TheVariants.{Full, NotHeld}
 use Rattle.faults.specs.declared.layers.BenchFault.{BenchFault}
@@ -100,6 +101,18 @@ in_frames x (y ∷ ys) (inr i) = inr (in_frames x ys i)
 length_frames : (xs : List Sent) → length (map (λ y. y.frame) xs) ≡ length xs
 length_frames [] = refl
 length_frames (x ∷ xs) = ap suc (length_frames xs)
+
+-- an answer that does not fit is of too many frames
+pub too_many : (o : Ops) (rows : List Row) (v : Frame) (xs : List Sent) → Answer o rows v xs → (n : ℕ) → n < sent_length * length xs → Overfull o rows v n
+too_many o rows v xs A n l = record { frames = map (λ x. x.frame) xs; ascending = A.ascending; emitted = emitted xs (λ x i z. (A.sound x i).1 (sym (A.sound x i).0 ∙ z)); many = many }
+  where
+    emitted : (ys : List Sent) → ((x : Sent) → InSent x ys → emits o rows v x.frame ≢ o.zero) → (t : Frame) → InSent t (map (λ x. x.frame) ys) → emits o rows v t ≢ o.zero
+    emitted [] h t i = absurd i
+    emitted (x ∷ ys) h t (inl p) = subst (λ (u : Frame). emits o rows v u ≢ o.zero) (sym p) (h x (inl refl))
+    emitted (x ∷ ys) h t (inr i) = emitted ys (λ y j. h y (inr j)) t i
+
+    many : n < sent_length * length (map (λ x. x.frame) xs)
+    many = let k = length_frames xs in omega (arith, l, k)
 
 module _ {o : Ops} (L : Laws o) where
   -- what is sent fits, so it is not overfull

@@ -1,5 +1,5 @@
 -- The law of every series of calls.
-use Rattle.std.specs.Prelude.{◌≡◌, ℕ, ◌↔◌, List, map}
+use Rattle.std.specs.Prelude.{◌≡◌, ℕ, ◌↔◌, List}
 use Rattle.weights.specs.Weights.{Ops, Laws}
 use Rattle.weights.specs.Order.{In}
 use Rattle.meaning.specs.Leaves.{Frame}
@@ -19,9 +19,8 @@ pub record Law (o : Ops) (events : List Event) (last : State) (ledger : Ledger) 
   -- each answer that gave a word, early or late
   pub words : (e : Event) (w : ℕ) → In e events → e.reply ≡ Word w → ItsWord o e w last
   -- any two are the same word exactly if by their entries, then the latest, they stand for the same weights of all frames
-  pub equal_exactly :
-      (e f : Event) (v w : ℕ) → In e events → In f events → e.reply ≡ Word v → f.reply ≡ Word w →
-      (v ≡ w) ↔ Alike (stands_for o e.left e.after v) (stands_for o f.left f.after w)
+  pub equal_exactly : (e e' : Event) (w w' : ℕ) → In e events → In e' events → e.reply ≡ Word w → e'.reply ≡ Word w' →
+      (w ≡ w') ↔ Alike (stands_for o e.left e.after w) (stands_for o e'.left e'.after w')
   -- every frame is forwarded by what was installed last, whenever it is: on the way, and next
   pub forwards : (e : Event) (v : Frame) → In e events → InRange v → Forwards o e.found e.before.in_force v
   pub forwards_next : (v : Frame) → InRange v → Forwards o last ledger.in_force v
@@ -34,13 +33,12 @@ pub record Performed (o : Ops) (first : State) (calls : List Call) (replies : Li
   pub accounted : (es : List Event) × (l : Ledger) × Account o first (no_entries o) calls replies es last l
   -- the law holds of every one
   pub law : (es : List Event) (l : Ledger) → Account o first (no_entries o) calls replies es last l → Law o es last l
-  -- and any two, where the states are the same, say the same of every word and of what is in force
-  pub one_ledger :
-      (es fs : List Event) (l m : Ledger) → map (λ e. e.found) es ≡ map (λ e. e.found) fs →
-      Account o first (no_entries o) calls replies es last l → Account o first (no_entries o) calls replies fs last m →
-      ((w : ℕ) → Alike (stands_for o last l w) (stands_for o last m w)) × Alike l.in_force m.in_force
+  -- and any two say the same of every word and of what is in force
+  pub one_ledger : (es es' : List Event) (l l' : Ledger) →
+      Account o first (no_entries o) calls replies es last l → Account o first (no_entries o) calls replies es' last l' →
+      ((w : ℕ) → Alike (stands_for o last l w) (stands_for o last l' w)) × Alike l.in_force l'.in_force
 
 -- for every lawful kind of weight, all memories that fit, and every chain of steps
 abbrev pub EverySeriesFollowsTheLaw : Type 0
-EverySeriesFollowsTheLaw =
-    (o : Ops) → Laws o → (z : Sizes) → AllFit z → (cs : List Call) (rs : List Reply) (s : State) → Run o (opened z) cs rs s → Performed o (opened z) cs rs s
+EverySeriesFollowsTheLaw = (o : Ops) → Laws o → (z : Sizes) → AllFit z →
+    (cs : List Call) (rs : List Reply) (s : State) → Run o (opened z) cs rs s → Performed o (opened z) cs rs s

@@ -39,9 +39,11 @@ entered w m l = record { entries = (w, m) ∷ l.entries; in_force = l.in_force }
 
 -- what a call in state s with this reply makes of the ledger
 pub data Enters (o : Ops) (s : State) (l : Ledger) : Call → Reply → Ledger → Type 0 where
-  by_compile : {ws : List ℕ} {p : Policy} {w : ℕ} {m : Meaning} → Accepted ws p → Means o p m → Enters o s l (Compile ws) (Word w) (entered w m l)
+  by_compile : {ws : List ℕ} {p : Policy} {w : ℕ} {m : Meaning} → Accepted ws p → Means o p m →
+      Enters o s l (Compile ws) (Word w) (entered w m l)
   by_union : {x y w : ℕ} {m : Meaning} → IsUnion o (stands_for o s l x) (stands_for o s l y) m → Enters o s l (Union x y) (Word w) (entered w m l)
-  by_sequence : {x y w : ℕ} {m : Meaning} → IsSequence o (stands_for o s l x) (stands_for o s l y) m → Enters o s l (Sequence x y) (Word w) (entered w m l)
+  by_sequence : {x y w : ℕ} {m : Meaning} → IsSequence o (stands_for o s l x) (stands_for o s l y) m →
+      Enters o s l (Sequence x y) (Word w) (entered w m l)
   by_star : {x w : ℕ} {m : Meaning} → IsStar o (stands_for o s l x) m → Enters o s l (Star x) (Word w) (entered w m l)
   by_install : {x n : ℕ} → Enters o s l (Install x) (Installed n) (record { entries = l.entries; in_force = stands_for o s l x })
   by_forward : {ws out : List ℕ} {n : ℕ} → Enters o s l (Forward ws n) (Written out) l
@@ -59,9 +61,6 @@ pub record Event : Type 0 where
 -- a chain of steps with a ledger of it, event by event: from this state and ledger to those
 pub data Account (o : Ops) : State → Ledger → List Call → List Reply → List Event → State → Ledger → Type 0 where
   done : {s : State} {l : Ledger} → Account o s l [] [] [] s l
-  next :
-      {s m s' : State} {l k l' : Ledger} {c : Call} {cs : List Call} {r : Reply} {rs : List Reply} {es : List Event} →
-      Step o s c r m →
-      Enters o s l c r k →
-      Account o m k cs rs es s' l' →
+  next : {s m s' : State} {l k l' : Ledger} {c : Call} {cs : List Call} {r : Reply} {rs : List Reply} {es : List Event} →
+      Step o s c r m → Enters o s l c r k → Account o m k cs rs es s' l' →
       Account o s l (c ∷ cs) (r ∷ rs) (record { call = c; reply = r; found = s; left = m; before = l; after = k } ∷ es) s' l'

@@ -19,9 +19,12 @@ pub record TableOf (o : Ops) (table : List ℕ) (rows : List Row) : Type 0 where
   pub legal : LegalRows o rows
   pub words : table ≡ table_words rows
 
-abbrev pub rooms_of : Sizes → Rooms
-rooms_of z = record { actions = z.actions; cells = z.cells; nodes = z.nodes }
-
 -- as a bench is opened: nothing in store, the table of drop in force
 abbrev pub opened : Sizes → State
-opened z = record { stored = record { actions = []; leaves = []; nodes = [] }; rooms = rooms_of z; table = table_words (rows_of drop_diagram); table_room = z.table_words }
+opened z =
+    record {
+      stored = record { actions = []; leaves = []; nodes = [] };
+      rooms = record { actions = z.actions; cells = z.cells; nodes = z.nodes };
+      table = table_words (rows_of drop_diagram);
+      table_room = z.table_words;
+    }

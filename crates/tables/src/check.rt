@@ -16,7 +16,7 @@ use format::{FIELDS, Setting, VALUE_END};
 use std::marker::PhantomData;
 use weights::WeightKind;
 
-// The words of a legal table of the kind K, which only the check makes.
+// The words of a legal table of the kind K: those of the check, or of a table in force.
 #[derive(Drop)]
 pub struct CheckedTable<'a, K: WeightKind> {
     pub(crate) words: &'a [u32],

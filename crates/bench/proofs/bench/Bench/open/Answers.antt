@@ -1,11 +1,17 @@
-use Rattle.bench.proofs.Opening.{drop_legal, opened_table, opened_state}
+use Rattle.std.proofs.Common.{ℕ, ◌≤◌, refl, sym, subst}
+use Rattle.bench.proofs.Opening.{as_long, drop_legal, opened_table, opened_state}
 use Rattle.bench.proofs.bench.Bench.open.Goals as goal
 
-pub of-requires-clause-legal : goal.of-requires-clause-legal
-of-requires-clause-legal g c = drop_legal g.K.WeightKind.ops c.args.judged.table.now c.drop_table-words.result c.args.judged.fit.table_fits.0 c.drop_table-words.ensures.words c.drop_table-words.ensures.legal
-
 pub invariant_of-result : goal.invariant_of-result
-invariant_of-result g c = opened_table c.args.judged.actions.now c.args.judged.cells.now c.args.judged.nodes.now c.args.judged.table.now c.args.judged.fit c.drop_table-words.ensures.words c.of.ensures.words c.of.ensures.count g.K.WeightKind.ops
+invariant_of-result g c =
+    let t = c.args.memories.fit.table_fits.0 in
+    record {
+      within = subst (λ (n : ℕ). 2 ≤ n) (sym (as_long c.args.memories.table.now c.drop_table-words.result t)) t;
+      legal = ∣ drop_legal g.K.WeightKind.ops c.args.memories.table.now c.drop_table-words.result t c.drop_table-words.ensures.words c.drop_table-words.ensures.legal ∣₁;
+    }
+
+pub invariant_of-result-2 : goal.invariant_of-result-2
+invariant_of-result-2 g c = opened_table c.args.memories.actions.now c.args.memories.cells.now c.args.memories.nodes.now c.args.memories.table.now c.args.memories.fit c.drop_table-words.ensures.words refl refl g.K.WeightKind.ops
 
 pub returns : goal.returns
-returns g c = opened_state c.args.judged.actions.now c.args.judged.cells.now c.args.judged.nodes.now c.args.judged.table.now c.args.judged.fit c.drop_table-words.ensures.words c.of.ensures.words c.of.ensures.count c.open.ensures.stored c.open.ensures.rooms
+returns g c = opened_state c.args.memories.actions.now c.args.memories.cells.now c.args.memories.nodes.now c.args.memories.table.now c.args.memories.fit c.drop_table-words.ensures.words refl refl c.open.ensures.stored c.open.ensures.rooms

@@ -1,4 +1,0 @@
-use Rattle.numerals.proofs.DecimalDisplay.+fmt.Given as goal
-
-abbrev pub decreases-fmt : goal.decreases-fmt
-decreases-fmt g l = l.self.now.0

@@ -1,4 +1,0 @@
-use Rattle.numerals.proofs.printed.DecimalPrint.+print.Given as goal
-
-abbrev pub decreases-print : goal.decreases-print
-decreases-print l = l.self.now.0
