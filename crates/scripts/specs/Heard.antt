@@ -1,7 +1,7 @@
 -- What a line of the code stands for, and what was read of a script so far. The contracts of the crate's own functions cite it.
 use Rattle.std.specs.Prelude.{◌≡◌, ℕ, ◌-◌, ◌^◌, ◌≤◌, min, List, [], map, ◌∷◌, length, take, Some, Option, option_map}
 use Rattle.scripts.specs.Lines.{Asked, asked, Meaning, nothing, call, frame_into}
-use Rattle.scripts.specs.Scripts.{frame_of, frames_of}
+use Rattle.scripts.specs.Scripts.{frame_of, frames_of, room_of, rooms_of}
 use Rattle.scripts.specs.Words.{words}
 use Rattle.calls.specs.declared.Call.{Call}
 use Rattle.scripts.specs.declared.lines.Line.{Line}
@@ -13,20 +13,21 @@ heard line.Nothing = Some nothing
 heard (line.Call c) = Some (call (asked c))
 heard (line.Forward text n) = option_map call (frame_into n (words text.now))
 
--- only a forward's frame is still to be read
+-- only a forward's frame is still to be read, and it alone takes memory
 abbrev pub Frameless : Line → Type 0
 Frameless line.Nothing = Unit {0}
-Frameless (line.Call c) = frame_of (asked c) ≡ []
+Frameless (line.Call c) = (frame_of (asked c) ≡ []) × (room_of (asked c) ≡ 0)
 Frameless (line.Forward text n) = Unit {0}
 
 -- the greatest number that a size can be
 abbrev pub most : ℕ
 most = 2 ^ 64 - 1
 
--- these are the numbers of the calls and of their frames' words, which stand in memory if they fit
+-- this is what the calls need, and their frames' words stand in memory if they fit
 pub record Holds (cs : List Asked) (needs : Needs) (frames : List ℕ) : Type 0 where
   pub calls : needs.calls ≡ min most (length cs)
   pub words : needs.words ≡ min most (length (frames_of cs))
+  pub room : needs.room ≡ min most (rooms_of cs)
   pub written : length (frames_of cs) ≤ length frames → take (length (frames_of cs)) frames ≡ frames_of cs
 
 abbrev pub asked_in : Meaning → List Asked

@@ -1,6 +1,6 @@
 -- What a script asks.
 use Rattle.std.specs.Prelude.{ℕ, ◌+◌, List, [], ◌∷◌, Some, None, Ok, Err, Option, Result, ◌==◌}
-use Rattle.std.specs.List.{slice_split, flat_map}
+use Rattle.std.specs.List.{slice_split, flat_map, sum_by}
 use Rattle.scripts.specs.Lines.{Asked, compile, union, sequence, star, install, forward, Meaning, nothing, call, line_said}
 
 abbrev pub lines : List ℕ → List (List ℕ)
@@ -35,3 +35,15 @@ frame_of (forward ws n) = ws
 
 abbrev pub frames_of : List Asked → List ℕ
 frames_of cs = flat_map frame_of cs
+
+-- into how many words of memory calls forward
+abbrev pub room_of : Asked → ℕ
+room_of (compile text) = 0
+room_of (union x y) = 0
+room_of (sequence x y) = 0
+room_of (star x) = 0
+room_of (install x) = 0
+room_of (forward ws n) = n
+
+abbrev pub rooms_of : List Asked → ℕ
+rooms_of cs = sum_by room_of cs

@@ -19,24 +19,29 @@ fn take_line(line: &[u8], frames: &mut [u32], needs: Needs) -> Option<Needs>
         Line::Call(_) => Some(Needs {
             calls: needs.calls.saturating_add(1),
             words: needs.words,
+            room: needs.room,
         }),
-        Line::Forward(text, _) => {
+        Line::Forward(text, room) => {
             let start = needs.words.min(frames.len());
             let count = write_frame(text, &mut frames[start..])?;
             Some(Needs {
                 calls: needs.calls.saturating_add(1),
                 words: needs.words.saturating_add(count),
+                room: needs.room.saturating_add(room),
             })
         }
     }
 }
 
-// How many calls a script has, and how many words their frames, which are written one after another if all fit; or the first line
-// that is no call.
+// What a script needs, and the words of its frames one after another if all fit; or its first line that is no call.
 pub fn write_frames(script: &[u8], frames: &mut [u32]) -> Result<Needs, NoCall>
     ensures { MatchResult result (λ needs. (cs : List Asked) × (script_said script.now ≡ Ok cs) × Holds cs needs frames.new) (λ e. script_said script.now ≡ Err e.0) }
 {
-    let mut needs = Needs { calls: 0, words: 0 };
+    let mut needs = Needs {
+        calls: 0,
+        words: 0,
+        room: 0,
+    };
     let mut number: usize = 1;
     let mut rest = Some(script);
     while let Some(text) = rest {

@@ -14,12 +14,12 @@ pub returns-in_ok-count-in-Forward : goal.returns-in_ok-count-in-Forward
 returns-in_ok-count-in-Forward c cs h =
     let says = rw c.in-Forward.is at c.in_ok-read_line.ensures.says in
     let read = some_length _ c.in_ok-count-in-Forward.count c.in_ok-count-in-Forward.ensures.count in (
-      call (forward read.0 c.in-Forward.field-1),
-      sym says ∙ framed_line c.in-Forward.text.now read.0 c.in-Forward.field-1 read.1,
-      one_framed h (forward read.0 c.in-Forward.field-1) c.write_frame.new.out _ c.min-start.result c.saturating_add-in-Forward.result
-          c.saturating_add-in-Forward-2.result c.min-start.ensures (omega arith)
+      call (forward read.0 c.in-Forward.room),
+      sym says ∙ framed_line c.in-Forward.text.now read.0 c.in-Forward.room read.1,
+      one_framed h (forward read.0 c.in-Forward.room) c.write_frame.new.out _ c.min-start.result c.saturating_add-in-Forward.result
+          c.saturating_add-in-Forward-2.result c.saturating_add-in-Forward-3.result c.min-start.ensures (omega arith)
           (omega (arith, c.write_frame.auto.out, length-take (length c.args.frames.now - c.min-start.result) (drop c.min-start.result c.args.frames.now), length-drop c.min-start.result c.args.frames.now))
           (omega (arith, length-drop (length c.args.frames.now - c.min-start.result) (drop c.min-start.result c.args.frames.now), length-drop c.min-start.result c.args.frames.now))
           (λ le. c.write_frame.ensures.written read.0 read.1 (omega (arith, c.write_frame.auto.out))) c.saturating_add-in-Forward.ensures
-          (c.saturating_add-in-Forward-2.ensures ∙ ap (λ n. min (c.args.needs.words + n) most) read.2),
+          (c.saturating_add-in-Forward-2.ensures ∙ ap (λ n. min (c.args.needs.words + n) most) read.2) c.saturating_add-in-Forward-3.ensures,
     )
