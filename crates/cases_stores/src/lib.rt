@@ -5,12 +5,10 @@
 mod tests {
     use actions::Action;
     use counts::{Counts, Sizes};
-    use diagrams::Stores;
     use faults::Shown;
     use format::{Amount, Setting};
     use records::{Cell, Diagram, Node, Record};
     use stores::Store;
-    use weights::Reach;
 
     fn amount(number: u16) -> Amount {
         Amount {
@@ -79,78 +77,6 @@ mod tests {
     fn nodes_fill_their_store(rt: HostRuntime) {
         let mut slots = [node(1); 2];
         assert!(rt; fills(&mut slots, node(1), node(2), node(3)));
-    }
-
-    fn over<'a>(
-        actions: &'a mut [Action],
-        cells: &'a mut [Cell],
-        nodes: &'a mut [Node],
-    ) -> Stores<'a> {
-        let actions = Store { slots: actions };
-        let cells = Store { slots: cells };
-        let nodes = Store { slots: nodes };
-        Stores {
-            actions,
-            cells,
-            nodes,
-        }
-    }
-
-    // The word of the diagram of a test on the port, none where it is refused.
-    fn word(stores: &mut Stores<'_>, counts: &mut Counts, value: u16) -> Option<u32> {
-        let diagram = stores.test::<Reach>(counts, port(value)).ok()?;
-        Some(diagram.into())
-    }
-
-    // In stores of these sizes the diagram is refused and nothing is in store.
-    fn refuses(actions: &mut [Action], cells: &mut [Cell], nodes: &mut [Node]) -> bool {
-        let mut counts = Counts::none();
-        let mut stores = over(actions, cells, nodes);
-        let refused = word(&mut stores, &mut counts, 3);
-        refused.is_none() && counts == Counts::none()
-    }
-
-    #[test]
-    fn a_test_is_refused_for_want_of_an_action(rt: HostRuntime) {
-        let mut cells = [cell(1); 1];
-        let mut nodes = [node(1); 1];
-        assert!(rt; refuses(&mut [], &mut cells, &mut nodes));
-    }
-
-    #[test]
-    fn a_test_is_refused_for_want_of_a_cell(rt: HostRuntime) {
-        let mut actions = [Action::keep_all(); 1];
-        let mut nodes = [node(1); 1];
-        assert!(rt; refuses(&mut actions, &mut [], &mut nodes));
-    }
-
-    #[test]
-    fn a_test_is_refused_for_want_of_a_node(rt: HostRuntime) {
-        let mut actions = [Action::keep_all(); 1];
-        let mut cells = [cell(1); 1];
-        assert!(rt; refuses(&mut actions, &mut cells, &mut []));
-    }
-
-    // One of each is enough for one test, asked for twice, and not for a second test.
-    #[test]
-    fn one_of_each_is_enough_for_one_test(rt: HostRuntime) {
-        let mut actions = [Action::keep_all(); 1];
-        let mut cells = [cell(2); 1];
-        let mut nodes = [node(1); 1];
-        let mut counts = Counts::none();
-        let mut stores = over(&mut actions, &mut cells, &mut nodes);
-        let first = word(&mut stores, &mut counts, 3);
-        let other = word(&mut stores, &mut counts, 4);
-        let again = word(&mut stores, &mut counts, 3);
-        let one_of_each = Counts {
-            actions: 1,
-            cells: 1,
-            nodes: 1,
-        };
-        assert_eq!(rt; first, Some(0x1000_0001));
-        assert_eq!(rt; other, None);
-        assert_eq!(rt; again, first);
-        assert_eq!(rt; counts, one_of_each);
     }
 
     // The number of the memory that is refused, if any is.

@@ -4,7 +4,7 @@ use Rattle.std.specs.List.{slice_get}
 use Rattle.std.proofs.lemmas.Option.{slice_get-get_or}
 use Rattle.stores.specs.Numbers.{Numbered}
 use Rattle.engine.specs.Built.{build}
-use Rattle.engine.specs.State.{Each_in}
+use Rattle.engine.specs.State.{EachFrom}
 
 module _ {R D : Type 0} (g : List D → R → D) where
   pub build_more : (ds : List D) (rs : List R) → (rest : List D) × (build g ds rs ≡ ds ++ rest)
@@ -62,7 +62,7 @@ module _ {X : Type 0} where
       let e : suc n - 1 ≡ n = omega arith in
       front_at k xs n (omega arith) ∙ (slice_get-get_or xs n d (omega arith) ∙ ap (λ (i : ℕ). Some (get_or xs i d)) (sym e))
 
-  pub each_in_at : (P : ℕ → X → Type 0) (k : ℕ) (xs : List X) (i : ℕ) (x : X) → Each_in P k xs → slice_get xs i ≡ Some x → P (k + i) x
+  pub each_in_at : (P : ℕ → X → Type 0) (k : ℕ) (xs : List X) (i : ℕ) (x : X) → EachFrom P k xs → slice_get xs i ≡ Some x → P (k + i) x
   each_in_at P k [] i x h e = cc
   each_in_at P k (y ∷ xs) zero x h e =
       let a : y ≡ x = cc in
@@ -72,7 +72,7 @@ module _ {X : Type 0} where
       let b : k + 1 + i ≡ k + suc i = omega arith in
       subst (λ (n : ℕ). P n x) b (each_in_at P (k + 1) xs i x h.1 e)
 
-  pub each_in_last : (P : ℕ → X → Type 0) (k : ℕ) (xs : List X) (x : X) → Each_in P k xs → P (k + length xs) x → Each_in P k (xs ++ (x ∷ []))
+  pub each_in_last : (P : ℕ → X → Type 0) (k : ℕ) (xs : List X) (x : X) → EachFrom P k xs → P (k + length xs) x → EachFrom P k (xs ++ (x ∷ []))
   each_in_last P k [] x h p =
       let b : k + 0 ≡ k = omega arith in
       (subst (λ (n : ℕ). P n x) b p, tt)
@@ -80,13 +80,13 @@ module _ {X : Type 0} where
       let b : k + suc (length xs) ≡ k + 1 + length xs = omega arith in
       (h.0, each_in_last P (k + 1) xs x h.1 (subst (λ (n : ℕ). P n x) b p))
 
-  pub each_in_map : (P Q : ℕ → X → Type 0) → ((n : ℕ) (x : X) → P n x → Q n x) → (k : ℕ) (xs : List X) → Each_in P k xs → Each_in Q k xs
+  pub each_in_map : (P Q : ℕ → X → Type 0) → ((n : ℕ) (x : X) → P n x → Q n x) → (k : ℕ) (xs : List X) → EachFrom P k xs → EachFrom Q k xs
   each_in_map P Q f k [] h = tt
   each_in_map P Q f k (x ∷ xs) h = (f k x h.0, each_in_map P Q f (k + 1) xs h.1)
 
 -- two makings that agree on what each asks of those before make the same
 module _ {R D : Type 0} (g k : List D → R → D) (P : ℕ → R → Type 0) (same : (ds : List D) (r : R) → P (length ds) r → g ds r ≡ k ds r) where
-  pub build_same : (n : ℕ) (ds : List D) (rs : List R) → n ≡ length ds → Each_in P n rs → build g ds rs ≡ build k ds rs
+  pub build_same : (n : ℕ) (ds : List D) (rs : List R) → n ≡ length ds → EachFrom P n rs → build g ds rs ≡ build k ds rs
   build_same n ds [] e h = refl
   build_same n ds (r ∷ rs) e h =
       let q : g ds r ≡ k ds r = same ds r (subst (λ (m : ℕ). P m r) e h.0) in

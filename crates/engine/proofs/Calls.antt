@@ -15,14 +15,14 @@ use Rattle.requests.specs.Claims.{Construction}
 use Rattle.records.specs.declared.kinds.Diagram.{Diagram}
 use Rattle.records.specs.Words.{word_of, Held as WordHeld}
 use Rattle.counts.specs.declared.counts.Counts.{Counts}
-use Rattle.diagrams.specs.declared.memory.Stores.{Stores}
-use Rattle.diagrams.specs.Tests.{contents}
+use Rattle.engine.specs.declared.memory.Stores.{Stores}
+use Rattle.engine.specs.Contents.{contents}
 use Rattle.stored.specs.Stored.{Stored, Holdings, diagram}
 use Rattle.stored.specs.Calls.{Call, Compile, Union, Sequence, Star, Builds, of_policy, of_union, of_sequence, of_star, Unheld, Constructs, built, full, not_held}
 use Rattle.engine.specs.declared.memo.PackedEntry.{PackedEntry}
 use Rattle.engine.specs.State.{state, diagram_of, Present}
 use Rattle.engine.specs.Cells.{LeavesFormed}
-use Rattle.engine.specs.Done.{Kept, Done}
+use Rattle.engine.specs.Done.{NothingLost, Done}
 use Rattle.engine.specs.Memo.{Remembers, NothingWritten, AllRemade}
 use Rattle.engine.specs.Compiling.{CompiledFrom}
 use Rattle.engine.specs.Views.{holdings, SoundEngine}
@@ -73,9 +73,9 @@ module _ {o : Ops} {m : Stores} {c : Counts} {l : List (Option PackedEntry)} (b 
   -- a construction by rules R of the counts that it begins with, for which the guard lent the counts d and left the counts e
   module _
       (R : Counts → Construction) (call : Call) (builds : (r : MDiagram) (asks : List Request) → R c r asks → Builds o S call r asks)
-      {d c' : Counts} {m' : Stores} (i : d ≡ c) (k : Kept d m c' m') where
-    its_kept : Kept c m c' m'
-    its_kept = subst (λ (u : Counts). Kept u m c' m') i k
+      {d c' : Counts} {m' : Stores} (i : d ≡ c) (k : NothingLost d m c' m') where
+    its_kept : NothingLost c m c' m'
+    its_kept = subst (λ (u : Counts). NothingLost u m c' m') i k
 
     its_done : (result : Result Diagram StoreFault) → Done (R d) d m c' m' result → Done (R c) c m c' m' result
     its_done result g = subst (λ (u : Counts). Done (R u) u m c' m' result) i g

@@ -7,10 +7,10 @@ use Rattle.requests.specs.Claims.{Construction, AtLeastOne, AtMostOne}
 use Rattle.faults.specs.declared.layers.StoreFault.{StoreFault}
 use Rattle.records.specs.declared.kinds.Diagram.{Diagram}
 use Rattle.counts.specs.declared.counts.Counts.{Counts}
-use Rattle.diagrams.specs.declared.memory.Stores.{Stores}
+use Rattle.engine.specs.declared.memory.Stores.{Stores}
 use Rattle.engine.specs.State.{Names}
-use Rattle.engine.specs.Done.{Good, Kept, Done}
-use Rattle.engine.specs.Steps.{Then}
+use Rattle.engine.specs.Done.{SoundStores, NothingLost, Done}
+use Rattle.engine.specs.InTurn.{Then}
 use Rattle.engine.proofs.Numbers.{in_left, in_right}
 use Rattle.engine.proofs.Composing.{Sofar, start, next, refused, complete, tail, append_empty}
 use Rattle.engine.proofs.NarrowRules.{here}
@@ -20,7 +20,7 @@ pub record Pending (Q : Construction) (c : Counts) (s : Stores) (a : List Reques
   pub sofar : Sofar c s a c' s'
   pub rule : (r : MDiagram) (x : List Request) → K r x → Q r (a ++ x)
 
-pub begin : {Q : Construction} {c : Counts} {s : Stores} (K : Construction) → Good c s → ((r : MDiagram) (x : List Request) → K r x → Q r x) → Pending Q c s [] K c s
+pub begin : {Q : Construction} {c : Counts} {s : Stores} (K : Construction) → SoundStores c s → ((r : MDiagram) (x : List Request) → K r x → Q r x) → Pending Q c s [] K c s
 begin K g f = record { sofar = start g; rule = f }
 
 pub at_rule : {R R' : Construction} → R' ≡ R → {r : MDiagram} {x : List Request} → R' r x → R r x
@@ -28,7 +28,7 @@ at_rule e {r} {x} h = subst (λ (S : Construction). S r x) e h
 
 module _ {Q : Construction} {c : Counts} {s : Stores} {a : List Request} {R : Construction} {K : MDiagram → Construction} {c' : Counts} {s' : Stores} (p : Pending Q c s a (Then R K) c' s') {R' : Construction} (e : R' ≡ R) {c'' : Counts} {s'' : Stores} where
   -- the step is made
-  pub step : {w : Diagram} (d : Done R' c' s' c'' s'' (Ok w)) → Kept c' s' c'' s'' → Pending Q c s (a ++ d.asks) (K d.out) c'' s''
+  pub step : {w : Diagram} (d : Done R' c' s' c'' s'' (Ok w)) → NothingLost c' s' c'' s'' → Pending Q c s (a ++ d.asks) (K d.out) c'' s''
   step d k =
       record {
         sofar = next p.sofar d k;

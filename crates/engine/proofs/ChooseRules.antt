@@ -12,9 +12,9 @@ use Rattle.requests.proofs.Total.{make_total, choose_total}
 use Rattle.faults.specs.declared.layers.StoreFault.{StoreFault}
 use Rattle.records.specs.declared.kinds.Diagram.{Diagram}
 use Rattle.counts.specs.declared.counts.Counts.{Counts}
-use Rattle.diagrams.specs.declared.memory.Stores.{Stores}
-use Rattle.engine.specs.Done.{Good, Done}
-use Rattle.engine.specs.Steps.{Then}
+use Rattle.engine.specs.declared.memory.Stores.{Stores}
+use Rattle.engine.specs.Done.{SoundStores, Done}
+use Rattle.engine.specs.InTurn.{Then}
 use Rattle.engine.proofs.JoinRules.{at_any, at_less, off_less, less_both}
 use Rattle.engine.proofs.Chain.{Pending, begin, last, then_total}
 
@@ -46,7 +46,7 @@ module _ (o : Ops) (f n g m : ℕ) (Y Z : MDiagram) where
   pub then_yes : (v : MDiagram) → AtLeastOne (AfterYes v)
   then_yes v = then_total (at_any o Z g m) (then_at v)
 
-  module _ {c0 : Counts} {s0 : Stores} (good : Good c0 s0) (e : (g, m) ≡ least_test f n Y Z) where
+  module _ {c0 : Counts} {s0 : Stores} (good : SoundStores c0 s0) (e : (g, m) ≡ least_test f n Y Z) where
     pub same_field : g ≡ f → m ≢ n → Pending (Chooses o f n Y Z) c0 s0 [] SameField c0 s0
     same_field p q =
         begin SameField good

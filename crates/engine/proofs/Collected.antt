@@ -9,7 +9,7 @@ use Rattle.meaning.specs.Decide.{choice, decide, three, Tri, below, level, above
 use Rattle.meaning.specs.Leaves.{Action as MAction, Cell as MCell, Each, Ascending, put, collect}
 use Rattle.meaning.proofs.Gathering.{before_trans, choice_no, each_map}
 use Rattle.requests.specs.Rules.{narrow_leaf}
-use Rattle.engine.specs.declared.merging.View.TheVariants.{Whole, Kept, Changed}
+use Rattle.engine.specs.declared.merging.Selection.TheVariants.{All, Unchanged, Changed}
 use Rattle.engine.specs.Merging.{put_first, sift, join_in, merge}
 use Rattle.engine.proofs.Merged.{three_below, three_level, three_above}
 
@@ -86,7 +86,7 @@ module _ (o : Ops) where
       choice_no (decide c.1 o.zero) (collect o (l ++ m)) (put o c.0 c.1 (collect o (l ++ m))) h.0
       ∙ (ap (put o c.0 c.1) (collect_merge l m s.1 h.1 t k) ∙ put_merge c l m s.0 t)
 
-pub sift_whole : (l : List MCell) → sift Whole l ≡ l
+pub sift_whole : (l : List MCell) → sift All l ≡ l
 unfolding sift
 sift_whole [] = refl
 sift_whole (c ∷ l) = ap {B = List MCell} (λ k. c ∷ k) (sift_whole l)
@@ -135,12 +135,12 @@ module _ (t : Setting) where
   abbrev narrowed : MAction → MAction
   narrowed a = narrow_action a t.field t.value
 
-  kept_after : (b : MAction) (l : List MCell) → After b l → After b (sift (Kept t) l)
+  kept_after : (b : MAction) (l : List MCell) → After b l → After b (sift (Unchanged t) l)
   unfolding sift
   kept_after b [] h = tt
   kept_after b (c ∷ l) h = go (sets c.0) (kept_after b l h.1)
     where
-      go : (d : Dec (get_or c.0 t.field None ≡ Some t.value)) → After b (sift (Kept t) l) → After b (put_first c.1 (choice d None (Some c.0)) (sift (Kept t) l))
+      go : (d : Dec (get_or c.0 t.field None ≡ Some t.value)) → After b (sift (Unchanged t) l) → After b (put_first c.1 (choice d None (Some c.0)) (sift (Unchanged t) l))
       go (yes e) ih = ih
       go (no k) ih = (h.0, ih)
 
@@ -162,7 +162,7 @@ module _ (t : Setting) where
       go (yes e) ih = (changed_after c.0 e l s.0, ih)
       go (no k) ih = ih
 
-  pub narrow_merge : (o : Ops) (l : List MCell) → Ascending l → NoZeros o l → narrow_leaf o l t.field t.value ≡ merge o (sift (Kept t) l) (sift (Changed t) l)
+  pub narrow_merge : (o : Ops) (l : List MCell) → Ascending l → NoZeros o l → narrow_leaf o l t.field t.value ≡ merge o (sift (Unchanged t) l) (sift (Changed t) l)
   unfolding sift
   narrow_merge o [] s h = sym (merge_empty o [])
   narrow_merge o (c ∷ l) s h =
@@ -170,19 +170,19 @@ module _ (t : Setting) where
       ∙ (ap (put o (narrowed c.0) c.1) (narrow_merge o l s.1 h.1) ∙ go (sets c.0))
     where
       K : List MCell
-      K = sift (Kept t) l
+      K = sift (Unchanged t) l
 
       C : List MCell
       C = sift (Changed t) l
 
       go :
           (d : Dec (get_or c.0 t.field None ≡ Some t.value)) →
-          put o (narrowed c.0) c.1 (merge o (sift (Kept t) l) (sift (Changed t) l)) ≡ merge o (put_first c.1 (choice d None (Some c.0)) (sift (Kept t) l)) (put_first c.1 (choice d (Some (narrowed c.0)) None) (sift (Changed t) l))
+          put o (narrowed c.0) c.1 (merge o (sift (Unchanged t) l) (sift (Changed t) l)) ≡ merge o (put_first c.1 (choice d None (Some c.0)) (sift (Unchanged t) l)) (put_first c.1 (choice d (Some (narrowed c.0)) None) (sift (Changed t) l))
       go (yes e) =
           let p = lowered c.0 t.field t.value e in
-          let k : After (narrowed c.0) (sift (Kept t) l) = kept_after (narrowed c.0) l (each_map (λ x q. before_trans (narrowed c.0) c.0 x.0 p q) l s.0) in
-          put_before o (narrowed c.0) c.1 _ (each_merge o (λ b. Before (narrowed c.0) b) (sift (Kept t) l) (sift (Changed t) l) k (changed_after c.0 e l s.0))
-          ∙ sym (merge_later o (narrowed c.0, c.1) (sift (Kept t) l) (sift (Changed t) l) k)
+          let k : After (narrowed c.0) (sift (Unchanged t) l) = kept_after (narrowed c.0) l (each_map (λ x q. before_trans (narrowed c.0) c.0 x.0 p q) l s.0) in
+          put_before o (narrowed c.0) c.1 _ (each_merge o (λ b. Before (narrowed c.0) b) (sift (Unchanged t) l) (sift (Changed t) l) k (changed_after c.0 e l s.0))
+          ∙ sym (merge_later o (narrowed c.0, c.1) (sift (Unchanged t) l) (sift (Changed t) l) k)
       go (no k) =
-          ap (λ (a : MAction). put o a c.1 (merge o (sift (Kept t) l) (sift (Changed t) l))) (unchanged c.0 t.field t.value k)
-          ∙ put_merge o c (sift (Kept t) l) (sift (Changed t) l) (kept_after c.0 l s.0) (changed_ascending l s.1)
+          ap (λ (a : MAction). put o a c.1 (merge o (sift (Unchanged t) l) (sift (Changed t) l))) (unchanged c.0 t.field t.value k)
+          ∙ put_merge o c (sift (Unchanged t) l) (sift (Changed t) l) (kept_after c.0 l s.0) (changed_ascending l s.1)

@@ -22,10 +22,10 @@ use Rattle.requests.proofs.Claims.{compile_answers}
 use Rattle.faults.specs.declared.layers.StoreFault.{StoreFault}
 use Rattle.records.specs.declared.kinds.Diagram.{Diagram}
 use Rattle.counts.specs.declared.counts.Counts.{Counts}
-use Rattle.diagrams.specs.declared.memory.Stores.{Stores}
+use Rattle.engine.specs.declared.memory.Stores.{Stores}
 use Rattle.engine.specs.State.{State, diagram_of, Present, Grown}
-use Rattle.engine.specs.Done.{Good, Kept, Done}
-use Rattle.engine.specs.Steps.{Then}
+use Rattle.engine.specs.Done.{SoundStores, NothingLost, Done}
+use Rattle.engine.specs.InTurn.{Then}
 use Rattle.engine.specs.Words.{by_bits, by_word, taken, Runs, IsWord}
 use Rattle.engine.specs.Compiling.{CompiledFrom}
 use Rattle.engine.proofs.Numbers.{each_map}
@@ -86,7 +86,7 @@ empty_words [] = refl
 empty_words (x ∷ l) = ap {B = List ℕ} (λ y. x ∷ y) (empty_words l)
 
 module _ {o : Ops} (L : Laws o) where
-  pub compile_started : {c : Counts} {s : Stores} {ws : List ℕ} {held : List Diagram} → LegalWords ws → Good c s → held ≡ [] → CompileMade o c s ws 0 held c s
+  pub compile_started : {c : Counts} {s : Stores} {ws : List ℕ} {held : List Diagram} → LegalWords ws → SoundStores c s → held ≡ [] → CompileMade o c s ws 0 held c s
   compile_started {c} {s} {ws} {held} l g e =
       let K = policy_known ws l in
       let A = compile_answers o L K.0 K.1.legal in
@@ -154,7 +154,7 @@ module _ {o : Ops} (L : Laws o) {c : Counts} {s : Stores} {ws : List ℕ} {i : �
       pub word_stops : {c'' : Counts} {s'' : Stores} {f : StoreFault} {result : Result Diagram StoreFault} (d : Done (by_word o w (map (diagram_of (here c' s')) held)) c' s' c'' s'' (Err f)) → result ≡ Err f → CompiledFrom o ws c s c'' s'' result
       word_stops d r = record { policy = m.policy; accepted = m.accepted; done = halt now refl once still d r }
 
-      pub word_made : {c'' : Counts} {s'' : Stores} {v : Diagram} {rest held' : List Diagram} (d : Done (by_word o w (map (diagram_of (here c' s')) held)) c' s' c'' s'' (Ok v)) → Kept c' s' c'' s'' → rest ≡ drop (operands w) held → held' ≡ v ∷ rest → CompileMade o c s ws (i + 1) held' c'' s''
+      pub word_made : {c'' : Counts} {s'' : Stores} {v : Diagram} {rest held' : List Diagram} (d : Done (by_word o w (map (diagram_of (here c' s')) held)) c' s' c'' s'' (Ok v)) → NothingLost c' s' c'' s'' → rest ≡ drop (operands w) held → held' ≡ v ∷ rest → CompileMade o c s ws (i + 1) held' c'' s''
       word_made {c''} {s''} {v} {rest} {held'} d k r r' =
           subst (λ (x : List Diagram). CompileMade o c s ws (i + 1) x c'' s'') (sym (r' ∙ ap {B = List Diagram} (λ (x : List Diagram). v ∷ x) r))
           (record {

@@ -7,13 +7,13 @@ use Rattle.records.specs.declared.kinds.Diagram.{Diagram}
 use Rattle.records.specs.declared.kinds.Diagram.TheVariants.{Leaf, Branch}
 use Rattle.stores.specs.Numbers.{Numbered, held, numbers_limit}
 use Rattle.counts.specs.declared.counts.Counts.{Counts}
-use Rattle.diagrams.specs.declared.memory.Stores.{Stores}
-use Rattle.diagrams.specs.Tests.{Contents, contents, SameMemory}
+use Rattle.engine.specs.declared.memory.Stores.{Stores}
+use Rattle.engine.specs.Contents.{Contents, contents, SameMemory}
 use Rattle.requests.specs.Requests.{Request, action, cell, node}
 use Rattle.requests.specs.Claims.{Construction}
 use Rattle.engine.specs.Built.{numbered_or}
 use Rattle.engine.specs.State.{State, state, diagram_of, Present, Names, Has, Grown}
-use Rattle.engine.specs.Done.{Kind, actions, cells, nodes, rooms, Added, Over, Good, Kept, Done}
+use Rattle.engine.specs.Done.{Kind, actions, cells, nodes, rooms, Added, Over, SoundStores, NothingLost, Done}
 use Rattle.engine.proofs.Numbers.{or_grown, numbered_grown, in_left, in_right, take_less, each_map, each_append}
 
 pub append_empty : {X : Type 0} (xs : List X) → xs ++ [] ≡ xs
@@ -146,10 +146,10 @@ same_memory_trans m n =
       nodes_size = n.nodes_size ∙ m.nodes_size;
     }
 
-pub kept_refl : (c : Counts) (s : Stores) → Kept c s c s
+pub kept_refl : (c : Counts) (s : Stores) → NothingLost c s c s
 kept_refl c s = record { actions_rise = omega arith; cells_rise = omega arith; nodes_rise = omega arith; stays = refl; memory = same_memory_refl s }
 
-contents_stay : {c c' c'' : Counts} {s s' s'' : Stores} → Kept c s c' s' → Kept c' s' c'' s'' → contents c s'' ≡ contents c s
+contents_stay : {c c' c'' : Counts} {s s' s'' : Stores} → NothingLost c s c' s' → NothingLost c' s' c'' s'' → contents c s'' ≡ contents c s
 contents_stay k l =
     λ i. record {
       actions = (still_held _ _ k.actions_rise (ap (λ (x : Contents). x.actions) l.stays) ∙ ap (λ (x : Contents). x.actions) k.stays) i;
@@ -157,7 +157,7 @@ contents_stay k l =
       nodes = (still_held _ _ k.nodes_rise (ap (λ (x : Contents). x.nodes) l.stays) ∙ ap (λ (x : Contents). x.nodes) k.stays) i;
     }
 
-pub kept_trans : {c c' c'' : Counts} {s s' s'' : Stores} → Kept c s c' s' → Kept c' s' c'' s'' → Kept c s c'' s''
+pub kept_trans : {c c' c'' : Counts} {s s' s'' : Stores} → NothingLost c s c' s' → NothingLost c' s' c'' s'' → NothingLost c s c'' s''
 kept_trans k l =
     record {
       actions_rise = rise k.actions_rise l.actions_rise;
@@ -172,15 +172,15 @@ kept_trans k l =
 
 -- how far a construction has come
 pub record Sofar (c : Counts) (s : Stores) (a : List Request) (c' : Counts) (s' : Stores) : Type 0 where
-  pub good : Good c' s'
+  pub good : SoundStores c' s'
   pub added : Added (state (contents c s)) a (state (contents c' s'))
-  pub kept : Kept c s c' s'
+  pub kept : NothingLost c s c' s'
 
-pub start : {c : Counts} {s : Stores} → Good c s → Sofar c s [] c s
+pub start : {c : Counts} {s : Stores} → SoundStores c s → Sofar c s [] c s
 start {c} {s} g = record { good = g; added = added_none _; kept = kept_refl c s }
 
 module _ {c : Counts} {s : Stores} {a : List Request} {c' : Counts} {s' : Stores} (p : Sofar c s a c' s') {R : Construction} {c'' : Counts} {s'' : Stores} where
-  pub next : {w : Diagram} (d : Done R c' s' c'' s'' (Ok w)) → Kept c' s' c'' s'' → Sofar c s (a ++ d.asks) c'' s''
+  pub next : {w : Diagram} (d : Done R c' s' c'' s'' (Ok w)) → NothingLost c' s' c'' s'' → Sofar c s (a ++ d.asks) c'' s''
   next d k = record { good = d.made.good; added = added_then p.added d.made.added; kept = kept_trans p.kept k }
 
   -- a part that is refused is refused for the whole

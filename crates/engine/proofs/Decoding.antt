@@ -10,11 +10,11 @@ use Rattle.records.specs.declared.kinds.Diagram.TheVariants.{Leaf, Branch}
 use Rattle.records.proofs.Alike.{amounts_told}
 use Rattle.stores.specs.Numbers.{Numbered, Distinct}
 use Rattle.counts.specs.declared.counts.Counts.{Counts}
-use Rattle.diagrams.specs.declared.memory.Stores.{Stores}
-use Rattle.diagrams.specs.Tests.{Contents, contents}
+use Rattle.engine.specs.declared.memory.Stores.{Stores}
+use Rattle.engine.specs.Contents.{Contents, contents}
 use Rattle.engine.specs.Built.{numbered_or}
-use Rattle.engine.specs.State.{state, diagram_of, side_of, node_of, leaf_of, actions_in, leaves_in, nodes_in, Present, Names, Sound, NodeGood, SideGood}
-use Rattle.engine.specs.Done.{Good}
+use Rattle.engine.specs.State.{state, diagram_of, side_of, node_of, leaf_of, actions_in, leaves_in, nodes_in, Present, Names, Sound, NodeNamesEarlier, WordNamesEarlier}
+use Rattle.engine.specs.Done.{SoundStores}
 use Rattle.engine.proofs.Numbers.{or_grown, numbered_bound, numbered_any, numbered_value}
 use Rattle.engine.proofs.Building.{build_at, build_length, at_middle, only_one, each_in_at}
 
@@ -45,7 +45,7 @@ module _ (c : Contents) (h : Sound c) where
   abbrev Ns : List MDiagram
   Ns = nodes_in Ls c.nodes
 
-  side_stays : (before rest : List MDiagram) (k : ℕ) (w : Diagram) → SideGood k (length before) w → side_of Ls (before ++ rest) w ≡ side_of Ls before w
+  side_stays : (before rest : List MDiagram) (k : ℕ) (w : Diagram) → WordNamesEarlier k (length before) w → side_of Ls (before ++ rest) w ≡ side_of Ls before w
   side_stays before rest k (Leaf n) p = refl
   side_stays before rest k (Branch n) p = or_grown (MLeaf []) before rest n.number p.1
 
@@ -54,9 +54,9 @@ module _ (c : Contents) (h : Sound c) where
   node_read zero x e = cc
   node_read (suc i) x e =
       let b = build_at (node_of Ls) [] c.nodes i x e in
-      let good : NodeGood (length c.cells) (0 + i) x = each_in_at (NodeGood (length c.cells)) 0 c.nodes i x h.nodes_good e in
+      let good : NodeNamesEarlier (length c.cells) (0 + i) x = each_in_at (NodeNamesEarlier (length c.cells)) 0 c.nodes i x h.nodes_name_earlier e in
       let long : 0 + i ≡ length b.0 = omega (arith, b.2) in
-      let good' = subst (λ (k : ℕ). NodeGood (length c.cells) k x) long good in
+      let good' = subst (λ (k : ℕ). NodeNamesEarlier (length c.cells) k x) long good in
       let there : Numbered (b.0 ++ (node_of Ls b.0 x ∷ b.1)) (suc i) (node_of Ls b.0 x) = at_middle b.0 (node_of Ls b.0 x) b.1 (suc i) (omega (arith, b.2)) in
       let yes = side_stays b.0 (node_of Ls b.0 x ∷ b.1) (length c.cells) x.yes good'.0 in
       let no = side_stays b.0 (node_of Ls b.0 x ∷ b.1) (length c.cells) x.no good'.1 in
@@ -113,7 +113,7 @@ module _ (c : Contents) (h : Sound c) where
       d (suc m) (suc n) s.0 (subst (λ (l : List MCell). Numbered Ls (suc m) l) k r.1) s.1
 
   -- words that stand for the same are the same
-  pub one_side : (v w : Diagram) → SideGood (length Ls) (length Ns) v → SideGood (length Ls) (length Ns) w → Distinct Ls → Distinct Ns → side_of Ls Ns v ≡ side_of Ls Ns w → v ≡ w
+  pub one_side : (v w : Diagram) → WordNamesEarlier (length Ls) (length Ns) v → WordNamesEarlier (length Ls) (length Ns) w → Distinct Ls → Distinct Ns → side_of Ls Ns v ≡ side_of Ls Ns w → v ≡ w
   one_side (Leaf m) (Leaf n) p q d d' e = ap Leaf (same_amount m n (leaf_number m.number n.number p q d (ap cells_of e)))
   one_side (Leaf m) (Branch n) p q d d' e =
       let r = numbered_any Ns n.number q.0 q.1 in
@@ -127,12 +127,12 @@ module _ (c : Contents) (h : Sound c) where
       let k : r.0 ≡ s.0 = sym (numbered_value (MLeaf []) Ns m.number r.0 r.1) ∙ (e ∙ numbered_value (MLeaf []) Ns n.number s.0 s.1) in
       ap Branch (same_amount m n (d' m.number n.number s.0 (subst (λ (l : MDiagram). Numbered Ns m.number l) k r.1) s.1))
 
-pub present_side : (c : Contents) (w : Diagram) → Present (state c) w → SideGood (length (leaves_in (actions_in c.actions) c.cells)) (length (nodes_in (leaves_in (actions_in c.actions) c.cells) c.nodes)) w
+pub present_side : (c : Contents) (w : Diagram) → Present (state c) w → WordNamesEarlier (length (leaves_in (actions_in c.actions) c.cells)) (length (nodes_in (leaves_in (actions_in c.actions) c.cells) c.nodes)) w
 unfolding state
 present_side c (Leaf n) p = p
 present_side c (Branch n) p = p
 
-pub one_word : (c : Counts) (s : Stores) → Good c s → (v w : Diagram) (d : MDiagram) → Names (state (contents c s)) v d → Names (state (contents c s)) w d → v ≡ w
+pub one_word : (c : Counts) (s : Stores) → SoundStores c s → (v w : Diagram) (d : MDiagram) → Names (state (contents c s)) v d → Names (state (contents c s)) w d → v ≡ w
 unfolding state diagram_of
 one_word c s g v w d m n =
     one_side (contents c s) g.sound v w (present_side (contents c s) v m.present) (present_side (contents c s) w n.present) g.sound.leaves_distinct g.sound.nodes_distinct (m.stands ∙ sym n.stands)

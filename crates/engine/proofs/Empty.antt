@@ -7,12 +7,12 @@ use Rattle.meaning.specs.Diagrams.{Node}
 use Rattle.requests.specs.Requests.{Request, action, cell, node}
 use Rattle.stores.specs.Numbers.{Numbered}
 use Rattle.counts.specs.declared.counts.Counts.{Counts}
-use Rattle.diagrams.specs.declared.memory.Stores.{Stores}
-use Rattle.diagrams.specs.Tests.{contents}
+use Rattle.engine.specs.declared.memory.Stores.{Stores}
+use Rattle.engine.specs.Contents.{contents}
 use Rattle.stored.specs.Stored.{Stored, Has}
 use Rattle.engine.specs.declared.memo.PackedEntry.{PackedEntry}
 use Rattle.engine.specs.State.{state}
-use Rattle.engine.specs.Done.{Good}
+use Rattle.engine.specs.Done.{SoundStores}
 use Rattle.engine.specs.Memo.{NothingWritten}
 use Rattle.engine.specs.Views.{nothing, rooms_in, holdings, SoundEngine}
 
@@ -32,13 +32,13 @@ empty_state : (s : Stores) → state (contents none s) ≡ nothing
 unfolding state
 empty_state s = refl
 
-none_good : (s : Stores) → Good none s
+none_good : (s : Stores) → SoundStores none s
 unfolding state
 none_good s =
     record {
       sound = record {
-        cells_good = tt;
-        nodes_good = tt;
+        cells_name_earlier = tt;
+        nodes_name_earlier = tt;
         actions_distinct = λ m n r e k. absurd (none_at m r e);
         leaves_distinct = λ m n r e k. absurd (none_at m r e);
         nodes_distinct = λ m n r e k. absurd (none_at m r e);

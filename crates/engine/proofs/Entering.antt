@@ -16,11 +16,11 @@ use Rattle.records.proofs.Alike.{settings_told}
 use Rattle.stores.specs.Numbers.{Numbered, Absent, Distinct, held, numbers_limit, Entered, NoRoom, Grown as StoreGrown}
 use Rattle.stores.proofs.Numbered.{pushed, pushed_last, distinct_pushed}
 use Rattle.counts.specs.declared.counts.Counts.{Counts}
-use Rattle.diagrams.specs.declared.memory.Stores.{Stores}
-use Rattle.diagrams.specs.Tests.{Contents, contents}
+use Rattle.engine.specs.declared.memory.Stores.{Stores}
+use Rattle.engine.specs.Contents.{Contents, contents}
 use Rattle.requests.specs.Requests.{Request, action, cell, node}
-use Rattle.engine.specs.State.{state, diagram_of, side_of, node_of, actions_in, leaves_in, nodes_in, Present, Names, Has, Sound, Counted, Grown, NodeGood, SideGood}
-use Rattle.engine.specs.Done.{nodes, kind_of, Added, Good, Done, Entering, NodeRead}
+use Rattle.engine.specs.State.{state, diagram_of, side_of, node_of, actions_in, leaves_in, nodes_in, Present, Names, Has, Sound, Counted, Grown, NodeNamesEarlier, WordNamesEarlier}
+use Rattle.engine.specs.Done.{nodes, kind_of, Added, SoundStores, Done, Entering, NodeRead}
 use Rattle.engine.proofs.Numbers.{numbered_bound, numbered_any, numbered_value}
 use Rattle.engine.proofs.Building.{build_last, only_one, each_in_at, each_in_last, numbered_slot}
 use Rattle.engine.proofs.Decoding.{node_whole, node_read, nodes_long, leaves_long, one_side, present_side}
@@ -35,13 +35,13 @@ slot_numbered c s k n d p h =
     let b = counted_bounds c.nodes s.nodes.slots.now k.nodes_counted in
     numbered_slot (min c.nodes numbers_limit) s.nodes.slots.now n d p (omega (arith, b.0)) (omega (arith, b.1))
 
-node_good : (c : Contents) → Sound c → (n : ℕ) (x : Node) → Numbered c.nodes n x → NodeGood (length c.cells) (n - 1) x
+node_good : (c : Contents) → Sound c → (n : ℕ) (x : Node) → Numbered c.nodes n x → NodeNamesEarlier (length c.cells) (n - 1) x
 node_good c h zero x e = cc
 node_good c h (suc i) x e =
     let k : 0 + i ≡ suc i - 1 = omega arith in
-    subst (λ (n : ℕ). NodeGood (length c.cells) n x) k (each_in_at (NodeGood (length c.cells)) 0 c.nodes i x h.nodes_good e)
+    subst (λ (n : ℕ). NodeNamesEarlier (length c.cells) n x) k (each_in_at (NodeNamesEarlier (length c.cells)) 0 c.nodes i x h.nodes_name_earlier e)
 
-side_present : (c : Contents) → Sound c → (n : ℕ) → n ≤ length c.nodes → (w : Diagram) → SideGood (length c.cells) (n - 1) w → Present (state c) w
+side_present : (c : Contents) → Sound c → (n : ℕ) → n ≤ length c.nodes → (w : Diagram) → WordNamesEarlier (length c.cells) (n - 1) w → Present (state c) w
 unfolding state
 side_present c h n l (Leaf k) p = omega (arith, leaves_long c h, p)
 side_present c h n l (Branch k) p = (p.0, omega (arith, nodes_long c h, p.1, l))
@@ -102,7 +102,7 @@ module _ (c : Contents) (h : Sound c) (x : Node) (yes : Present (state c) x.yes)
   abbrev more : Contents
   more = record { actions = c.actions; cells = c.cells; nodes = c.nodes ++ (x ∷ []) }
 
-  good_side : (w : Diagram) → Present (state c) w → SideGood (length c.cells) (length c.nodes) w
+  good_side : (w : Diagram) → Present (state c) w → WordNamesEarlier (length c.cells) (length c.nodes) w
   unfolding state
   good_side (Leaf n) p = omega (arith, leaves_long c h, p)
   good_side (Branch n) p = (p.0, omega (arith, nodes_long c h, p.1))
@@ -126,8 +126,8 @@ module _ (c : Contents) (h : Sound c) (x : Node) (yes : Present (state c) x.yes)
   unfolding state
   node_sound a =
       record {
-        cells_good = h.cells_good;
-        nodes_good = each_in_last (NodeGood (length c.cells)) 0 c.nodes x h.nodes_good (good_zero (length c.nodes) (good_side x.yes yes, good_side x.no no));
+        cells_name_earlier = h.cells_name_earlier;
+        nodes_name_earlier = each_in_last (NodeNamesEarlier (length c.cells)) 0 c.nodes x h.nodes_name_earlier (good_zero (length c.nodes) (good_side x.yes yes, good_side x.no no));
         actions_distinct = h.actions_distinct;
         leaves_distinct = h.leaves_distinct;
         nodes_distinct =
@@ -135,8 +135,8 @@ module _ (c : Contents) (h : Sound c) (x : Node) (yes : Present (state c) x.yes)
             (distinct_pushed Ns (node_of Ls Ns x) h.nodes_distinct (λ m e. a m (node_alone m e)));
       }
     where
-      good_zero : (k : ℕ) → NodeGood (length c.cells) k x → NodeGood (length c.cells) (0 + k) x
-      good_zero k p = let e : k ≡ 0 + k = omega arith in subst (λ (n : ℕ). NodeGood (length c.cells) n x) e p
+      good_zero : (k : ℕ) → NodeNamesEarlier (length c.cells) k x → NodeNamesEarlier (length c.cells) (0 + k) x
+      good_zero k p = let e : k ≡ 0 + k = omega arith in subst (λ (n : ℕ). NodeNamesEarlier (length c.cells) n x) e p
 
   abbrev d : MDiagram
   d = node_of Ls Ns x
@@ -238,7 +238,7 @@ module _ (c : Contents) (h : Sound c) (x : Node) (yes : Present (state c) x.yes)
       there = subst (λ (l : List Node). Numbered l n.number x) en e
 
 pub node_made :
-    (c : Counts) (s : Stores) (g : Good c s) (x : Node) →
+    (c : Counts) (s : Stores) (g : SoundStores c s) (x : Node) →
     Present (state (contents c s)) x.yes →
     Present (state (contents c s)) x.no →
     (c' : Counts) (s' : Stores) (n : Amount) →
@@ -278,7 +278,7 @@ node_made c s g x pyes pno c' s' n ha hc na nc e =
     counted (inr k) = omega (arith, ap length k.2, length-append (contents c s).nodes (x ∷ []), g.counted.nodes_counted, k.1)
 
 pub node_refused :
-    (c : Counts) (s : Stores) (g : Good c s) (x : Node) →
+    (c : Counts) (s : Stores) (g : SoundStores c s) (x : Node) →
     Present (state (contents c s)) x.yes →
     Present (state (contents c s)) x.no →
     (c' : Counts) (s' : Stores) {f : StoreFault} {result : Result Diagram StoreFault} →

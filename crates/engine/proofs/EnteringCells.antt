@@ -16,12 +16,12 @@ use Rattle.records.specs.declared.kinds.Diagram.TheVariants.{Leaf, Branch}
 use Rattle.stores.specs.Numbers.{Numbered, Absent, Distinct, numbers_limit, Entered, NoRoom, Refused, Grown as StoreGrown}
 use Rattle.stores.proofs.Numbered.{pushed, pushed_last, distinct_pushed}
 use Rattle.counts.specs.declared.counts.Counts.{Counts}
-use Rattle.diagrams.specs.declared.memory.Stores.{Stores}
-use Rattle.diagrams.specs.Tests.{Contents, contents}
+use Rattle.engine.specs.declared.memory.Stores.{Stores}
+use Rattle.engine.specs.Contents.{Contents, contents}
 use Rattle.requests.specs.Requests.{Request, action, cell, node}
 use Rattle.engine.specs.Built.{numbered_or}
-use Rattle.engine.specs.State.{State, state, diagram_of, side_of, node_of, leaf_of, actions_in, leaves_in, nodes_in, Names, Has, Sound, NodeGood, CellGood, SideGood}
-use Rattle.engine.specs.Done.{actions, cells, kind_of, rooms, Added, Over, Good, Done}
+use Rattle.engine.specs.State.{State, state, diagram_of, side_of, node_of, leaf_of, actions_in, leaves_in, nodes_in, Names, Has, Sound, NodeNamesEarlier, CellNamesEarlier, WordNamesEarlier}
+use Rattle.engine.specs.Done.{actions, cells, kind_of, rooms, Added, Over, SoundStores, Done}
 use Rattle.engine.specs.Leaves.{LeafPresent, leaf_at}
 use Rattle.engine.specs.Cells.{ActionPresent, action_at, CellRead, CellEntering, ActionMade, ActionDone, leaf_result}
 use Rattle.engine.proofs.Numbers.{or_grown, numbered_bound, numbered_any, numbered_value}
@@ -68,18 +68,18 @@ module _ (c : Contents) (h : Sound c) where
   actions_long : length As ≡ length c.actions
   actions_long = map_long (λ (a : Action). a.sets) c.actions
 
-  pub cell_good : (n : ℕ) (y : Cell) → Numbered c.cells n y → (i : ℕ) × (n ≡ suc i) × CellGood (length c.actions) i y
+  pub cell_good : (n : ℕ) (y : Cell) → Numbered c.cells n y → (i : ℕ) × (n ≡ suc i) × CellNamesEarlier (length c.actions) i y
   cell_good zero y e = cc
   cell_good (suc i) y e =
       let k : 0 + i ≡ i = omega arith in
-      (i, refl, subst (λ (n : ℕ). CellGood (length c.actions) n y) k (each_in_at (CellGood (length c.actions)) 0 c.cells i y h.cells_good e))
+      (i, refl, subst (λ (n : ℕ). CellNamesEarlier (length c.actions) n y) k (each_in_at (CellNamesEarlier (length c.actions)) 0 c.cells i y h.cells_name_earlier e))
 
   -- a cell stands for its action and weight on the leaf behind it
   pub cell_read : (n : ℕ) (y : Cell) → Numbered c.cells n y → Numbered Ls n (leaf_of As Ls y)
   cell_read zero y e = cc
   cell_read (suc i) y e =
       let b = build_at (leaf_of As) [] c.cells i y e in
-      let g = each_in_at (CellGood (length c.actions)) 0 c.cells i y h.cells_good e in
+      let g = each_in_at (CellNamesEarlier (length c.actions)) 0 c.cells i y h.cells_name_earlier e in
       let v = leaf_of As b.0 y in
       let there : Numbered (b.0 ++ (v ∷ b.1)) (suc i) v = at_middle b.0 v b.1 (suc i) (omega (arith, b.2)) in
       let rest : numbered_or [] (b.0 ++ (v ∷ b.1)) y.rest.number ≡ numbered_or [] b.0 y.rest.number = or_grown [] b.0 (v ∷ b.1) y.rest.number (omega (arith, b.2, g.2)) in
@@ -107,7 +107,7 @@ module _ (c : Contents) (h : Sound c) where
     acts_more : actions_in (c.actions ++ (x ∷ [])) ≡ As ++ (x.sets ∷ [])
     acts_more = map-append (λ (a : Action). a.sets) c.actions (x ∷ [])
 
-    same_cell : (ds : List (List MCell)) (y : Cell) → CellGood (length c.actions) (length ds) y → leaf_of (As ++ (x.sets ∷ [])) ds y ≡ leaf_of As ds y
+    same_cell : (ds : List (List MCell)) (y : Cell) → CellNamesEarlier (length c.actions) (length ds) y → leaf_of (As ++ (x.sets ∷ [])) ds y ≡ leaf_of As ds y
     same_cell ds y g =
         ap {B = List MCell} (λ (a : MAction). (a, y.weight.number) ∷ numbered_or [] ds y.rest.number)
         (or_grown [] As (x.sets ∷ []) y.action.number (omega (arith, g.1, actions_long)))
@@ -115,7 +115,7 @@ module _ (c : Contents) (h : Sound c) where
     leaves_stay : leaves_in (actions_in (c.actions ++ (x ∷ []))) c.cells ≡ Ls
     leaves_stay =
         ap (λ (a : List MAction). leaves_in a c.cells) acts_more
-        ∙ build_same (leaf_of (As ++ (x.sets ∷ []))) (leaf_of As) (CellGood (length c.actions)) same_cell 0 [] c.cells refl h.cells_good
+        ∙ build_same (leaf_of (As ++ (x.sets ∷ []))) (leaf_of As) (CellNamesEarlier (length c.actions)) same_cell 0 [] c.cells refl h.cells_name_earlier
 
     state_more : state more_actions ≡ with_action
     unfolding state
@@ -132,8 +132,8 @@ module _ (c : Contents) (h : Sound c) where
     unfolding state
     action_sound a =
         record {
-          cells_good = each_in_map (CellGood (length c.actions)) (CellGood (length (c.actions ++ (x ∷ [])))) (λ n y g. (g.0, omega (arith, g.1, length-append c.actions (x ∷ [])), g.2)) 0 c.cells h.cells_good;
-          nodes_good = h.nodes_good;
+          cells_name_earlier = each_in_map (CellNamesEarlier (length c.actions)) (CellNamesEarlier (length (c.actions ++ (x ∷ [])))) (λ n y g. (g.0, omega (arith, g.1, length-append c.actions (x ∷ [])), g.2)) 0 c.cells h.cells_name_earlier;
+          nodes_name_earlier = h.nodes_name_earlier;
           actions_distinct = subst (λ (t : State). Distinct t.actions) (sym state_more) (distinct_pushed As x.sets h.actions_distinct (λ m e. a m (action_alone m e)));
           leaves_distinct = subst (λ (t : State). Distinct t.leaves) (sym state_more) h.leaves_distinct;
           nodes_distinct = subst (λ (t : State). Distinct t.nodes) (sym state_more) h.nodes_distinct;
@@ -204,11 +204,11 @@ module _ (c : Contents) (h : Sound c) where
     abbrev with_cell : State
     with_cell = record { actions = As; leaves = Ls ++ (its_leaf ∷ []); nodes = Ns }
 
-    same_side : (ds : List MDiagram) (k : ℕ) (w : Diagram) → SideGood (length c.cells) k w → side_of (Ls ++ (its_leaf ∷ [])) ds w ≡ side_of Ls ds w
+    same_side : (ds : List MDiagram) (k : ℕ) (w : Diagram) → WordNamesEarlier (length c.cells) k w → side_of (Ls ++ (its_leaf ∷ [])) ds w ≡ side_of Ls ds w
     same_side ds k (Leaf n) g = ap {B = MDiagram} MLeaf (or_grown [] Ls (its_leaf ∷ []) n.number (omega (arith, g, leaves_long c h)))
     same_side ds k (Branch n) g = refl
 
-    same_node : (ds : List MDiagram) (y : Node) → NodeGood (length c.cells) (length ds) y → node_of (Ls ++ (its_leaf ∷ [])) ds y ≡ node_of Ls ds y
+    same_node : (ds : List MDiagram) (y : Node) → NodeNamesEarlier (length c.cells) (length ds) y → node_of (Ls ++ (its_leaf ∷ [])) ds y ≡ node_of Ls ds y
     same_node ds y g = ap₂ {C = MDiagram} (λ (v w : MDiagram). MNode y.test.field y.test.value v w) (same_side ds (length ds) y.yes g.0) (same_side ds (length ds) y.no g.1)
 
     cells_more : leaves_in As (c.cells ++ (x ∷ [])) ≡ Ls ++ (its_leaf ∷ [])
@@ -217,7 +217,7 @@ module _ (c : Contents) (h : Sound c) where
     nodes_stay : nodes_in (leaves_in As (c.cells ++ (x ∷ []))) c.nodes ≡ Ns
     nodes_stay =
         ap (λ (l : List (List MCell)). nodes_in l c.nodes) cells_more
-        ∙ build_same (node_of (Ls ++ (its_leaf ∷ []))) (node_of Ls) (NodeGood (length c.cells)) same_node 0 [] c.nodes refl h.nodes_good
+        ∙ build_same (node_of (Ls ++ (its_leaf ∷ []))) (node_of Ls) (NodeNamesEarlier (length c.cells)) same_node 0 [] c.nodes refl h.nodes_name_earlier
 
     state_grown : state more_cells ≡ with_cell
     unfolding state
@@ -252,14 +252,14 @@ module _ (c : Contents) (h : Sound c) where
     unfolding state
     cell_sound a =
         record {
-          cells_good = each_in_last (CellGood (length c.actions)) 0 c.cells x h.cells_good (act.0, omega (arith, act.1, actions_long), omega (arith, rest, leaves_long c h));
-          nodes_good = each_in_map (NodeGood (length c.cells)) (NodeGood (length (c.cells ++ (x ∷ [])))) (λ n y g. (wider n y.yes g.0, wider n y.no g.1)) 0 c.nodes h.nodes_good;
+          cells_name_earlier = each_in_last (CellNamesEarlier (length c.actions)) 0 c.cells x h.cells_name_earlier (act.0, omega (arith, act.1, actions_long), omega (arith, rest, leaves_long c h));
+          nodes_name_earlier = each_in_map (NodeNamesEarlier (length c.cells)) (NodeNamesEarlier (length (c.cells ++ (x ∷ [])))) (λ n y g. (wider n y.yes g.0, wider n y.no g.1)) 0 c.nodes h.nodes_name_earlier;
           actions_distinct = subst (λ (t : State). Distinct t.actions) (sym state_grown) h.actions_distinct;
           leaves_distinct = subst (λ (t : State). Distinct t.leaves) (sym state_grown) (distinct_pushed Ls its_leaf h.leaves_distinct (λ m e. a m (cell_alone m e)));
           nodes_distinct = subst (λ (t : State). Distinct t.nodes) (sym state_grown) h.nodes_distinct;
         }
       where
-        wider : (n : ℕ) (w : Diagram) → SideGood (length c.cells) n w → SideGood (length (c.cells ++ (x ∷ []))) n w
+        wider : (n : ℕ) (w : Diagram) → WordNamesEarlier (length c.cells) n w → WordNamesEarlier (length (c.cells ++ (x ∷ []))) n w
         wider n (Leaf m) g = omega (arith, g, length-append c.cells (x ∷ []))
         wider n (Branch m) g = g
 
@@ -335,7 +335,7 @@ was_counted : {X : Type 0} {k k' : ℕ} (xs xs' : List X) (x : X) → StoreGrown
 was_counted xs xs' x (inl k) e = ap length k.1 ∙ (e ∙ sym k.0)
 was_counted xs xs' x (inr k) e = omega (arith, ap length k.2, length-append xs (x ∷ []), e, k.1)
 
-module _ (c : Counts) (s : Stores) (g : Good c s) where
+module _ (c : Counts) (s : Stores) (g : SoundStores c s) where
   pub action_made :
       (x : Action) (c' : Counts) (s' : Stores) (n : ℕ) →
       (contents c' s').cells ≡ (contents c s).cells →

@@ -13,12 +13,12 @@ use Rattle.records.specs.declared.kinds.Cell.{Cell}
 use Rattle.records.specs.declared.kinds.Diagram.{Diagram}
 use Rattle.records.specs.declared.kinds.Diagram.TheVariants.{Leaf}
 use Rattle.counts.specs.declared.counts.Counts.{Counts}
-use Rattle.diagrams.specs.declared.memory.Stores.{Stores}
+use Rattle.engine.specs.declared.memory.Stores.{Stores}
 use Rattle.engine.specs.State.{State, diagram_of, Present, Names}
-use Rattle.engine.specs.Done.{Good, Kept, Done}
+use Rattle.engine.specs.Done.{SoundStores, NothingLost, Done}
 use Rattle.engine.specs.Leaves.{LeafPresent, leaf_at}
 use Rattle.engine.specs.Cells.{action_at, CellRead}
-use Rattle.engine.specs.Steps.{Then}
+use Rattle.engine.specs.InTurn.{Then}
 use Rattle.engine.proofs.Composing.{itself, names_grown, present_grown}
 use Rattle.engine.proofs.Alike.{joins_alike, prefixes_alike}
 use Rattle.engine.proofs.Chain.{Pending, begin, step, stop, ready, turn, then_total}
@@ -39,7 +39,7 @@ unfolding diagram_of
 empty_leaf s z e = record { present = omega arith; stands = ap (λ (n : ℕ). MLeaf (leaf_at s n)) e }
 
 pub follow_started :
-    {o : Ops} {c : Counts} {s : Stores} {second : Diagram} {zero first : Amount} → zero.number ≡ 0 → Good c s → LeafPresent (here c s) first.number → Present (here c s) second →
+    {o : Ops} {c : Counts} {s : Stores} {second : Diagram} {zero first : Amount} → zero.number ≡ 0 → SoundStores c s → LeafPresent (here c s) first.number → Present (here c s) second →
     FollowMade o c s (diagram_of (here c s) second) (leaf_at (here c s) first.number) second c s (Leaf zero) first
 follow_started {o} {c} {s} {second} {zero} {first} e g p q =
     record {
@@ -75,14 +75,14 @@ module _ {o : Ops} {c : Counts} {s : Stores} {E : MDiagram} {l0 : List MCell} {s
       pub prefix_stops : {c1 : Counts} {s1 : Stores} {f : StoreFault} {result : Result Diagram StoreFault} (d : Done (Prefixes o a x.weight.number S) c' s' c1 s1 (Err f)) → result ≡ Err f → Done (Follows o E (MLeaf []) l0) c s c1 s1 result
       prefix_stops d e = stop one_more same (λ q. then_total (join_total o m.diagram q) (follow_total o E (leaf_at (here c' s') x.rest.number))) d e
 
-      module _ {c1 : Counts} {s1 : Stores} {w : Diagram} (d1 : Done (Prefixes o a x.weight.number S) c' s' c1 s1 (Ok w)) (k1 : Kept c' s' c1 s1) where
+      module _ {c1 : Counts} {s1 : Stores} {w : Diagram} (d1 : Done (Prefixes o a x.weight.number S) c' s' c1 s1 (Ok w)) (k_1 : NothingLost c' s' c1 s1) where
         joined_same : ◌≡◌ {A = Construction} (Joins o (diagram_of (here c1 s1) sofar) (diagram_of (here c1 s1) w)) (Joins o m.diagram d1.out)
         joined_same = joins_alike o (names_grown d1.made.added.grown m.sofar_names).stands d1.made.names.stands
 
         pub join_stops : {c2 : Counts} {s2 : Stores} {f : StoreFault} {result : Result Diagram StoreFault} (d : Done (Joins o (diagram_of (here c1 s1) sofar) (diagram_of (here c1 s1) w)) c1 s1 c2 s2 (Err f)) → result ≡ Err f → Done (Follows o E (MLeaf []) l0) c s c2 s2 result
-        join_stops d e = stop (step one_more same d1 k1) joined_same (follow_total o E (leaf_at (here c' s') x.rest.number)) d e
+        join_stops d e = stop (step one_more same d1 k_1) joined_same (follow_total o E (leaf_at (here c' s') x.rest.number)) d e
 
-        module _ {c2 : Counts} {s2 : Stores} {u : Diagram} (d2 : Done (Joins o (diagram_of (here c1 s1) sofar) (diagram_of (here c1 s1) w)) c1 s1 c2 s2 (Ok u)) (k2 : Kept c1 s1 c2 s2) where
+        module _ {c2 : Counts} {s2 : Stores} {u : Diagram} (d2 : Done (Joins o (diagram_of (here c1 s1) sofar) (diagram_of (here c1 s1) w)) c1 s1 c2 s2 (Ok u)) (k_2 : NothingLost c1 s1 c2 s2) where
           rest_there : LeafPresent (here c1 s1) x.rest.number
           rest_there = present_grown d1.made.added.grown (Leaf x.rest) read.rest_present
 
@@ -94,7 +94,7 @@ module _ {o : Ops} {c : Counts} {s : Stores} {E : MDiagram} {l0 : List MCell} {s
               record {
                 diagram = d2.out;
                 asks = (m.asks ++ d1.asks) ++ d2.asks;
-                pending = turn (step (step one_more same d1 k1) joined_same d2 k2) (Follows o E d2.out (leaf_at (here c2 s2) x.rest.number)) (λ r y h. subst (λ (l : List MCell). Follows o E d2.out l r y) rest_same h);
+                pending = turn (step (step one_more same d1 k_1) joined_same d2 k_2) (Follows o E d2.out (leaf_at (here c2 s2) x.rest.number)) (λ r y h. subst (λ (l : List MCell). Follows o E d2.out l r y) rest_same h);
                 second_names = names_grown d2.made.added.grown (names_grown d1.made.added.grown m.second_names);
                 sofar_names = d2.made.names;
                 rest_present = present_grown d2.made.added.grown (Leaf x.rest) rest_there;

@@ -13,15 +13,15 @@ use Rattle.records.specs.declared.kinds.Diagram.{Diagram}
 use Rattle.records.specs.declared.kinds.Diagram.TheVariants.{Leaf, Branch}
 use Rattle.records.specs.Words.{word_of, Held as WordHeld}
 use Rattle.counts.specs.declared.counts.Counts.{Counts}
-use Rattle.diagrams.specs.declared.memory.Stores.{Stores}
-use Rattle.diagrams.specs.Tests.{Contents, contents, SameMemory}
+use Rattle.engine.specs.declared.memory.Stores.{Stores}
+use Rattle.engine.specs.Contents.{Contents, contents, SameMemory}
 use Rattle.stored.specs.Stored.{Stored, Rooms, diagram}
 use Rattle.stored.specs.Grows.{Fits, Adds, Grows, size}
 use Rattle.stored.proofs.Numbers.{each_in}
 use Rattle.stored.proofs.Growth.{Standing, a_leaf, a_node, standing, stands, has_grown}
 use Rattle.engine.specs.Built.{numbered_or}
 use Rattle.engine.specs.State.{State, state, diagram_of, Present, Names, Has, Sound}
-use Rattle.engine.specs.Done.{Kind, actions, cells, nodes, rooms, Added, Over, Good, Kept, Made}
+use Rattle.engine.specs.Done.{Kind, actions, cells, nodes, rooms, Added, Over, SoundStores, NothingLost, Made}
 use Rattle.engine.specs.Views.{rooms_in}
 use Rattle.engine.proofs.Numbers.{numbered_any, numbered_value, numbered_bound}
 use Rattle.engine.proofs.Decoding.{leaf_full, node_whole, nodes_long, leaves_long}
@@ -65,7 +65,7 @@ adds_of c s asks h a =
     there q (inr j) = each_in (Has (state c)) asks a.asked q j
 
 -- the counts are the lengths of the lists
-pub lengths : (c : Counts) (s : Stores) → Good c s → (c.actions ≡ length (state (contents c s)).actions) × (c.cells ≡ length (state (contents c s)).leaves) × (c.nodes ≡ length (state (contents c s)).nodes)
+pub lengths : (c : Counts) (s : Stores) → SoundStores c s → (c.actions ≡ length (state (contents c s)).actions) × (c.cells ≡ length (state (contents c s)).leaves) × (c.nodes ≡ length (state (contents c s)).nodes)
 lengths c s g = (
   sym (actions_length (contents c s) ∙ g.counted.actions_counted),
   sym (leaves_length (contents c s) g.sound ∙ g.counted.cells_counted),
@@ -103,11 +103,11 @@ names_diagram s (Branch n) d h =
     (subst (λ (k : ℕ). Numbered s.nodes k (numbered_or (MLeaf []) s.nodes n.number)) (sym p.2)
     (r.1 ∙ ap {B = Option MDiagram} Some (sym (numbered_value (MLeaf []) s.nodes n.number r.0 r.1))))))
 
-pub word_held : (c : Counts) (s : Stores) → Good c s → (w : Diagram) → WordHeld c.cells c.nodes w → Present (state (contents c s)) w
+pub word_held : (c : Counts) (s : Stores) → SoundStores c s → (w : Diagram) → WordHeld c.cells c.nodes w → Present (state (contents c s)) w
 word_held c s g (Leaf n) h = let a = leaves_length (contents c s) g.sound in let b = g.counted.cells_counted in omega (arith, a, b, h)
 word_held c s g (Branch n) h = let a = nodes_length (contents c s) g.sound in let b = g.counted.nodes_counted in (h.0, omega (arith, a, b, h.1))
 
-pub held_diagram : (c : Counts) (s : Stores) → Good c s → (w : Diagram) (bits : ℕ) → word_of w ≡ bits → WordHeld c.cells c.nodes w → diagram (state (contents c s)) bits ≡ Some (diagram_of (state (contents c s)) w)
+pub held_diagram : (c : Counts) (s : Stores) → SoundStores c s → (w : Diagram) (bits : ℕ) → word_of w ≡ bits → WordHeld c.cells c.nodes w → diagram (state (contents c s)) bits ≡ Some (diagram_of (state (contents c s)) w)
 held_diagram c s g w bits e h =
     subst (λ (b : ℕ). diagram (state (contents c s)) b ≡ Some (diagram_of (state (contents c s)) w)) e
     (names_diagram (state (contents c s)) w (diagram_of (state (contents c s)) w) (record { present = word_held c s g w h; stands = refl }))
@@ -129,7 +129,7 @@ dropped_place x xs zero y e = omega arith
 dropped_place x xs (suc n) y e = (numbered_bound xs (suc n) y e).1
 
 pub unheld_none :
-    (c : Counts) (s : Stores) → Good c s → (bits : ℕ) → ((w : Diagram) → word_of w ≡ bits → WordHeld c.cells c.nodes w → ⊥) → diagram (state (contents c s)) bits ≡ None
+    (c : Counts) (s : Stores) → SoundStores c s → (bits : ℕ) → ((w : Diagram) → word_of w ≡ bits → WordHeld c.cells c.nodes w → ⊥) → diagram (state (contents c s)) bits ≡ None
 unheld_none c s g bits h = go (diagram (state (contents c s)) bits) refl
   where
     S : State
@@ -149,7 +149,7 @@ unheld_none c s g bits h = go (diagram (state (contents c s)) bits) refl
 
 -- how much there is room for
 
-pub fits_of : (c : Counts) (s : Stores) → Good c s → Fits (rooms_in s) (state (contents c s))
+pub fits_of : (c : Counts) (s : Stores) → SoundStores c s → Fits (rooms_in s) (state (contents c s))
 fits_of c s g =
     record {
       actions = let a = actions_length (contents c s) in let b = g.counted.actions_counted in let k = counted_bounds c.actions s.actions.slots.now b in omega (arith, a, b, k.0, k.1);
@@ -172,7 +172,7 @@ same_rooms s s' h i = record { actions = min (h.actions_size i) numbers_limit; c
 -- an accepted construction
 pub grows_of :
     (c c' : Counts) (s s' : Stores) (r : MDiagram) (asks : List Request) (w : Diagram) →
-    Kept c s c' s' → Made r asks c s c' s' w → Grows (rooms_in s) (state (contents c s)) asks r (word_of w) (state (contents c' s'))
+    NothingLost c s c' s' → Made r asks c s c' s' w → Grows (rooms_in s) (state (contents c s)) asks r (word_of w) (state (contents c' s'))
 grows_of c c' s s' r asks w k m =
     record {
       adds = adds_of (contents c' s') (state (contents c s)) asks m.good.sound m.added;

@@ -13,9 +13,9 @@ use Rattle.faults.specs.declared.layers.StoreFault.{StoreFault}
 use Rattle.records.specs.declared.kinds.Node.{Node}
 use Rattle.records.specs.declared.kinds.Diagram.{Diagram}
 use Rattle.counts.specs.declared.counts.Counts.{Counts}
-use Rattle.diagrams.specs.declared.memory.Stores.{Stores}
+use Rattle.engine.specs.declared.memory.Stores.{Stores}
 use Rattle.engine.specs.State.{diagram_of, Names}
-use Rattle.engine.specs.Done.{Good, Kept, Done}
+use Rattle.engine.specs.Done.{SoundStores, NothingLost, Done}
 use Rattle.engine.specs.Leaves.{Split}
 use Rattle.engine.proofs.Numbers.{in_left, in_right, in_split}
 use Rattle.engine.proofs.Composing.{Among, Sofar, start, next, refused, complete, tail, itself, names_grown}
@@ -91,7 +91,7 @@ joins_any {o} {d} {e} {v} {w} {y} {z} {f} {n} {a} {b} {c} {g} h p q i j =
     both : (a b x : List Request) → Among a x → Among b x → Among (a ++ b) x
     both a b x A B q k = ⊎_elim (A q) (B q) (in_split q a b k)
 
-module _ {o : Ops} {c0 : Counts} {s0 : Stores} (good : Good c0 s0) {D E : MDiagram} {f n : ℕ} (h : first_root (root D) (root E) ≡ Some (f, n)) where
+module _ {o : Ops} {c0 : Counts} {s0 : Stores} (good : SoundStores c0 s0) {D E : MDiagram} {f n : ℕ} (h : first_root (root D) (root E) ≡ Some (f, n)) where
   pub join_stops_first :
       {c1 : Counts} {s1 : Stores} {k : StoreFault} {result : Result Diagram StoreFault} (d : Done (At o D f n) c0 s0 c1 s1 (Err k)) →
       result ≡ Err k →
@@ -101,7 +101,7 @@ module _ {o : Ops} {c0 : Counts} {s0 : Stores} (good : Good c0 s0) {D E : MDiagr
       let X = joins_any h d.by_the_rules B.2 (join_total o d.out B.0).2 (join_total o (off D f n) (off E f n)).2 in
       refused (start good) X.0 X.1 d e X.2 (nothing X.1) X.3
 
-  module _ {c1 : Counts} {s1 : Stores} {v : Diagram} (d1 : Done (At o D f n) c0 s0 c1 s1 (Ok v)) (k1 : Kept c0 s0 c1 s1) {E' : MDiagram} (i : E' ≡ E) where
+  module _ {c1 : Counts} {s1 : Stores} {v : Diagram} (d1 : Done (At o D f n) c0 s0 c1 s1 (Ok v)) (k_1 : NothingLost c0 s0 c1 s1) {E' : MDiagram} (i : E' ≡ E) where
     right_back : {r : MDiagram} {a : List Request} → At o E' f n r a → At o E f n r a
     right_back {r} {a} q = subst (λ (x : MDiagram). At o x f n r a) i q
 
@@ -111,11 +111,11 @@ module _ {o : Ops} {c0 : Counts} {s0 : Stores} (good : Good c0 s0) {D E : MDiagr
         Done (Joins o D E) c0 s0 c2 s2 result
     join_stops_second d e =
         let X = joins_any h d1.by_the_rules (right_back d.by_the_rules) (join_total o d1.out d.out).2 (join_total o (off D f n) (off E f n)).2 in
-        refused (next (start good) d1 k1) X.0 X.1 d e X.2 X.3 X.5
+        refused (next (start good) d1 k_1) X.0 X.1 d e X.2 X.3 X.5
 
-    module _ {c2 : Counts} {s2 : Stores} {w : Diagram} (d2 : Done (At o E' f n) c1 s1 c2 s2 (Ok w)) (k2 : Kept c1 s1 c2 s2) where
+    module _ {c2 : Counts} {s2 : Stores} {w : Diagram} (d2 : Done (At o E' f n) c1 s1 c2 s2 (Ok w)) (k_2 : NothingLost c1 s1 c2 s2) where
       second : Sofar c0 s0 (d1.asks ++ d2.asks) c2 s2
-      second = next (next (start good) d1 k1) d2 k2
+      second = next (next (start good) d1 k_1) d2 k_2
 
       -- the operands of the first join
       pub left_names : Names (here c2 s2) v d1.out
@@ -137,9 +137,9 @@ module _ {o : Ops} {c0 : Counts} {s0 : Stores} (good : Good c0 s0) {D E : MDiagr
             let X = joins_any h d1.by_the_rules (right_back d2.by_the_rules) (first_back d.by_the_rules) (join_total o (off D f n) (off E f n)).2 in
             refused second X.0 X.1 d e X.2 X.4 X.7
 
-        module _ {c3 : Counts} {s3 : Stores} {y : Diagram} (d3 : Done (Joins o V W) c2 s2 c3 s3 (Ok y)) (k3 : Kept c2 s2 c3 s3) {L R : MDiagram} (l : L ≡ off D f n) (r : R ≡ off E f n) where
+        module _ {c3 : Counts} {s3 : Stores} {y : Diagram} (d3 : Done (Joins o V W) c2 s2 c3 s3 (Ok y)) (k_3 : NothingLost c2 s2 c3 s3) {L R : MDiagram} (l : L ≡ off D f n) (r : R ≡ off E f n) where
           third : Sofar c0 s0 ((d1.asks ++ d2.asks) ++ d3.asks) c3 s3
-          third = next second d3 k3
+          third = next second d3 k_3
 
           off_back : {r' : MDiagram} {a : List Request} → Joins o L R r' a → Joins o (off D f n) (off E f n) r' a
           off_back {r'} {a} j = subst₂ (λ (x y : MDiagram). Joins o x y r' a) l r j
@@ -152,7 +152,7 @@ module _ {o : Ops} {c0 : Counts} {s0 : Stores} (good : Good c0 s0) {D E : MDiagr
               let X = joins_any h d1.by_the_rules (right_back d2.by_the_rules) (first_back d3.by_the_rules) (off_back d.by_the_rules) in
               refused third X.0 X.1 d e X.2 X.6 X.8
 
-          module _ {c4 : Counts} {s4 : Stores} {z : Diagram} (d4 : Done (Joins o L R) c3 s3 c4 s4 (Ok z)) (k4 : Kept c3 s3 c4 s4) where
+          module _ {c4 : Counts} {s4 : Stores} {z : Diagram} (d4 : Done (Joins o L R) c3 s3 c4 s4 (Ok z)) (k_4 : NothingLost c3 s3 c4 s4) where
             pub yes_joined : Names (here c4 s4) y d3.out
             yes_joined = names_grown d4.made.added.grown d3.made.names
 
@@ -163,7 +163,7 @@ module _ {o : Ops} {c0 : Counts} {s0 : Stores} (good : Good c0 s0) {D E : MDiagr
                 Done (Makes o f n Y Z) c4 s4 c5 s5 result →
                 Done (Joins o D E) c0 s0 c5 s5 result
             join_makes {Y = Y} {Z = Z} s t d5 =
-                tail (next third d4 k4) d5
+                tail (next third d4 k_4) d5
                 (subst (λ (x : List Request). Joins o D E d5.out x) (sym (flat d1.asks d2.asks d3.asks d4.asks d5.asks))
                 (joins_split h d1.by_the_rules (right_back d2.by_the_rules) (first_back d3.by_the_rules) (off_back d4.by_the_rules) made))
               where
@@ -177,13 +177,13 @@ module _ {o : Ops} {c0 : Counts} {s0 : Stores} (good : Good c0 s0) {D E : MDiagr
 
 -- the yes side of a root, or the diagram narrowed
 pub at_the_root :
-    {o : Ops} {c : Counts} {s : Stores} → Good c s → {D : MDiagram} {f n : ℕ} {x : Node} → Split (here c s) D f n x → Done (At o D f n) c s c s (Ok x.yes)
+    {o : Ops} {c : Counts} {s : Stores} → SoundStores c s → {D : MDiagram} {f n : ℕ} {x : Node} → Split (here c s) D f n x → Done (At o D f n) c s c s (Ok x.yes)
 at_the_root {o} {c} {s} g {D} {f} {n} {x} p =
     complete [] (start g) refl (itself (here c s) x.yes p.yes_present)
     (subst (λ (y : MDiagram). At o y f n (diagram_of (here c s) x.yes) []) (sym p.whole) (at_root refl refl))
 
 pub at_no_root :
-    {o : Ops} {c c' : Counts} {s s' : Stores} → Good c s → {D : MDiagram} {f n : ℕ} {result : Result Diagram StoreFault} →
+    {o : Ops} {c c' : Counts} {s s' : Stores} → SoundStores c s → {D : MDiagram} {f n : ℕ} {result : Result Diagram StoreFault} →
     root D ≢ Some (f, n) →
     Done (Narrows o D f n) c s c' s' result →
     Done (At o D f n) c s c' s' result

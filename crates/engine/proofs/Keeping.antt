@@ -13,19 +13,19 @@ use Rattle.stores.specs.Numbers.{Numbered}
 use Rattle.records.specs.declared.kinds.Diagram.{Diagram}
 use Rattle.records.specs.declared.kinds.Diagram.TheVariants.{Leaf, Branch}
 use Rattle.counts.specs.declared.counts.Counts.{Counts}
-use Rattle.diagrams.specs.declared.memory.Stores.{Stores}
-use Rattle.diagrams.specs.Tests.{Contents, contents}
+use Rattle.engine.specs.declared.memory.Stores.{Stores}
+use Rattle.engine.specs.Contents.{Contents, contents}
 use Rattle.engine.specs.Built.{numbered_or}
 use Rattle.engine.specs.State.{state, diagram_of, Present, Has, Sound}
-use Rattle.engine.specs.Done.{Good, Kept, Done}
+use Rattle.engine.specs.Done.{SoundStores, NothingLost, Done}
 use Rattle.format.specs.Policy.{Policy, Legal}
-use Rattle.engine.specs.Bench.{HeldFormed}
+use Rattle.engine.specs.HeldFormed.{HeldFormed}
 use Rattle.engine.proofs.Numbers.{numbered_any, numbered_value}
 use Rattle.engine.proofs.Decoding.{leaf_full, node_whole}
 use Rattle.engine.proofs.NarrowRules.{here}
 
 -- put back, the counts are those of sound stores
-pub good_back : {c c' : Counts} {s s' : Stores} → Good c s → Kept c s c' s' → Good c s'
+pub good_back : {c c' : Counts} {s s' : Stores} → SoundStores c s → NothingLost c s c' s' → SoundStores c s'
 good_back {c} {c'} {s} {s'} g k =
     record {
       sound = subst Sound (sym k.stays) g.sound;
@@ -36,7 +36,7 @@ good_back {c} {c'} {s} {s'} g k =
       };
     }
 
-pub formed_back : {o : Ops} {c c' : Counts} {s s' : Stores} → Kept c s c' s' → HeldFormed o c s → HeldFormed o c s'
+pub formed_back : {o : Ops} {c c' : Counts} {s s' : Stores} → NothingLost c s c' s' → HeldFormed o c s → HeldFormed o c s'
 formed_back {o} {c} k h q m = h q (subst (λ (x : Contents). Has (state x) q) k.stays m)
 
 module _ {o : Ops} (c : Contents) (g : Sound c) (h : (q : Request) → Has (state c) q → RecordFormed o q) where
@@ -76,13 +76,13 @@ pub after_refusal :
     {o : Ops} {c d e c' : Counts} {s s' : Stores} →
     d ≡ c →
     e ≡ c →
-    Good c s →
+    SoundStores c s →
     HeldFormed o c s →
-    Kept d s c' s' →
-    Good e s' × HeldFormed o e s'
+    NothingLost d s c' s' →
+    SoundStores e s' × HeldFormed o e s'
 after_refusal {o} {c} {d} {e} {c'} {s} {s'} i j g h k =
-    let k' : Kept c s c' s' = subst (λ (x : Counts). Kept x s c' s') i k in
-    subst (λ (x : Counts). Good x s' × HeldFormed o x s') (sym j) (good_back g k', formed_back k' h)
+    let k' : NothingLost c s c' s' = subst (λ (x : Counts). NothingLost x s c' s') i k in
+    subst (λ (x : Counts). SoundStores x s' × HeldFormed o x s') (sym j) (good_back g k', formed_back k' h)
 
 pub after_made :
     {o : Ops} {c d e c' : Counts} {s s' : Stores} {r : Diagram} (R : Counts → Construction) →
@@ -91,12 +91,12 @@ pub after_made :
     HeldFormed o c s →
     ((q : MDiagram) (x : List Request) → R c q x → Each (RecordFormed o) x) →
     Done (R d) d s c' s' (Ok r) →
-    Good e s' × HeldFormed o e s'
+    SoundStores e s' × HeldFormed o e s'
 after_made {o} {c} {d} {e} {c'} {s} {s'} {r} R i j h f m =
     let m' : Done (R c) c s c' s' (Ok r) = subst (λ (x : Counts). Done (R x) x s c' s' (Ok r)) i m in
-    subst (λ (x : Counts). Good x s' × HeldFormed o x s') (sym j) (m'.made.good, made_formed h m' (f m'.out m'.asks m'.by_the_rules))
+    subst (λ (x : Counts). SoundStores x s' × HeldFormed o x s') (sym j) (m'.made.good, made_formed h m' (f m'.out m'.asks m'.by_the_rules))
 
-module _ {o : Ops} (L : Laws o) {c : Counts} {s : Stores} (g : Good c s) (h : HeldFormed o c s) where
+module _ {o : Ops} (L : Laws o) {c : Counts} {s : Stores} (g : SoundStores c s) (h : HeldFormed o c s) where
   pub stands_formed : (w : Diagram) → Present (here c s) w → Formed o (diagram_of (here c s) w)
   stands_formed w p = word_formed (contents c s) g.sound h w p
 

@@ -16,15 +16,15 @@ use Rattle.records.specs.declared.kinds.Diagram.{Diagram}
 use Rattle.records.specs.declared.kinds.Diagram.TheVariants.{Leaf, Branch}
 use Rattle.stores.specs.Numbers.{Numbered}
 use Rattle.counts.specs.declared.counts.Counts.{Counts}
-use Rattle.diagrams.specs.declared.memory.Stores.{Stores}
-use Rattle.diagrams.specs.Tests.{contents}
+use Rattle.engine.specs.declared.memory.Stores.{Stores}
+use Rattle.engine.specs.Contents.{contents}
 use Rattle.requests.specs.Requests.{Request, leaf_records}
 use Rattle.requests.specs.Rules.{one_cell, narrow_leaf, Joins, joins_leaves}
 use Rattle.requests.specs.Claims.{Construction}
 use Rattle.requests.proofs.Acting.{narrow_of_leaf}
-use Rattle.engine.specs.declared.merging.View.TheVariants.{Whole, Kept, Changed}
+use Rattle.engine.specs.declared.merging.Selection.TheVariants.{All, Unchanged, Changed}
 use Rattle.engine.specs.State.{State, state, diagram_of, Present}
-use Rattle.engine.specs.Done.{Good, Done}
+use Rattle.engine.specs.Done.{SoundStores, Done}
 use Rattle.engine.specs.Leaves.{LeafPresent, leaf_at, LeafNarrows}
 use Rattle.engine.specs.Cells.{PutOn, LeafOf, LeavesFormed, number_of}
 use Rattle.engine.specs.Merging.{sift, merge}
@@ -47,17 +47,17 @@ weighed l h = each_map (λ c k. (k.action, k.weight)) l h.cells
 
 -- two leaves as one
 module _ {o : Ops} (L : Laws o) (l m : List MCell) (h : LeafFormed o l) (k : LeafFormed o m) where
-  joined : collect o (l ++ m) ≡ merge o (sift Whole l) (sift Whole m)
+  joined : collect o (l ++ m) ≡ merge o (sift All l) (sift All m)
   joined = collect_merge o l m h.ascending (no_zeros l h) k.ascending (no_zeros m k) ∙ sym (ap₂ (merge o) (sift_whole l) (sift_whole m))
 
-  pub joined_formed : LeafFormed o (merge o (sift Whole l) (sift Whole m))
+  pub joined_formed : LeafFormed o (merge o (sift All l) (sift All m))
   joined_formed = subst (LeafFormed o) joined (collect_formed L (l ++ m) (each_append (λ c. ActionFormed c.0 × Weight o c.1) l m (weighed l h) (weighed m k)))
 
   pub joined_done :
       {d e : MDiagram} {c c' : Counts} {s s' : Stores} {result : Result Diagram StoreFault} →
       d ≡ MLeaf l →
       e ≡ MLeaf m →
-      Done (LeafOf (merge o (sift Whole l) (sift Whole m))) c s c' s' result →
+      Done (LeafOf (merge o (sift All l) (sift All m))) c s c' s' result →
       Done (Joins o d e) c s c' s' result
   joined_done {d} {e} p q x =
       redone x (λ r a i.
@@ -66,15 +66,15 @@ module _ {o : Ops} (L : Laws o) (l m : List MCell) (h : LeafFormed o l) (k : Lea
 
 -- a leaf where a field holds a value
 module _ {o : Ops} (L : Laws o) (l : List MCell) (h : LeafFormed o l) (t : Setting) where
-  narrowed : narrow_leaf o l t.field t.value ≡ merge o (sift (Kept t) l) (sift (Changed t) l)
+  narrowed : narrow_leaf o l t.field t.value ≡ merge o (sift (Unchanged t) l) (sift (Changed t) l)
   narrowed = narrow_merge t o l h.ascending (no_zeros l h)
 
-  pub narrowed_formed : LeafFormed o (merge o (sift (Kept t) l) (sift (Changed t) l))
+  pub narrowed_formed : LeafFormed o (merge o (sift (Unchanged t) l) (sift (Changed t) l))
   narrowed_formed = subst (LeafFormed o) narrowed (subst (Formed o) (narrow_of_leaf o l t.field t.value) (formed_narrows L (MLeaf l) (known t.field t.value) h))
 
   pub narrowed_done :
       {c c' : Counts} {s s' : Stores} {result : Result Diagram StoreFault} →
-      Done (LeafOf (merge o (sift (Kept t) l) (sift (Changed t) l))) c s c' s' result →
+      Done (LeafOf (merge o (sift (Unchanged t) l) (sift (Changed t) l))) c s c' s' result →
       Done (LeafNarrows o l t.field t.value) c s c' s' result
   narrowed_done x = redone x (λ r a i. (i.0 ∙ ap {B = MDiagram} MLeaf (sym narrowed), i.1 ∙ ap leaf_records (sym narrowed)))
 
@@ -82,13 +82,13 @@ module _ {o : Ops} (L : Laws o) (l : List MCell) (h : LeafFormed o l) (t : Setti
 none_some : {A X : Type 0} (x : X) → Some x ≡ None → A
 none_some x e = cc
 
-not_node : (c : Counts) (s : Stores) → Good c s → (n : ℕ) (d : MDiagram) → Numbered (here c s).nodes n d → root d ≡ None → ⊥
+not_node : (c : Counts) (s : Stores) → SoundStores c s → (n : ℕ) (d : MDiagram) → Numbered (here c s).nodes n d → root d ≡ None → ⊥
 unfolding state
 not_node c s g n (MLeaf l) e q = true≢false (node_whole (contents c s) g.sound n (MLeaf l) e)
 not_node c s g n (MNode f m y z) e q = none_some (f, m) q
 
 pub leaf_only :
-    (c : Counts) (s : Stores) → Good c s → (w : Diagram) → Present (here c s) w → root (diagram_of (here c s) w) ≡ None →
+    (c : Counts) (s : Stores) → SoundStores c s → (w : Diagram) → Present (here c s) w → root (diagram_of (here c s) w) ≡ None →
     LeafPresent (here c s) (number_of w).number × (diagram_of (here c s) w ≡ MLeaf (leaf_at (here c s) (number_of w).number))
 unfolding diagram_of
 leaf_only c s g (Leaf n) p e = (p, refl)
@@ -97,7 +97,7 @@ leaf_only c s g (Branch n) p e =
     absurd (not_node c s g n.number r.0 r.1 (ap root (sym (numbered_value (MLeaf []) (here c s).nodes n.number r.0 r.1)) ∙ e))
 
 pub leaf_word_only :
-    {c : Counts} {s : Stores} (w : Diagram) (n : Amount) → n ≡ number_of w → Good c s → Present (here c s) w → root (diagram_of (here c s) w) ≡ None →
+    {c : Counts} {s : Stores} (w : Diagram) (n : Amount) → n ≡ number_of w → SoundStores c s → Present (here c s) w → root (diagram_of (here c s) w) ≡ None →
     LeafPresent (here c s) n.number × (diagram_of (here c s) w ≡ MLeaf (leaf_at (here c s) n.number))
 leaf_word_only {c} {s} w n e g p h =
     subst (λ (m : Amount). LeafPresent (here c s) m.number × (diagram_of (here c s) w ≡ MLeaf (leaf_at (here c s) m.number))) (sym e) (leaf_only c s g w p h)

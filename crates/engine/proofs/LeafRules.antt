@@ -11,13 +11,13 @@ use Rattle.format.specs.declared.settings.Amount.{Amount}
 use Rattle.records.specs.declared.kinds.Diagram.{Diagram}
 use Rattle.records.specs.declared.kinds.Diagram.TheVariants.{Leaf}
 use Rattle.counts.specs.declared.counts.Counts.{Counts}
-use Rattle.diagrams.specs.declared.memory.Stores.{Stores}
-use Rattle.diagrams.specs.Tests.{contents}
+use Rattle.engine.specs.declared.memory.Stores.{Stores}
+use Rattle.engine.specs.Contents.{contents}
 use Rattle.requests.specs.Requests.{Request, action, cell, node, leaf_records}
 use Rattle.requests.specs.Claims.{Construction}
 use Rattle.engine.specs.Built.{numbered_or}
 use Rattle.engine.specs.State.{State, state, diagram_of, Names, Has, Grown}
-use Rattle.engine.specs.Done.{Entering, Added, Over, Good, Kept, Done, rooms}
+use Rattle.engine.specs.Done.{Entering, Added, Over, SoundStores, NothingLost, Done, rooms}
 use Rattle.engine.specs.Leaves.{LeafPresent, leaf_at}
 use Rattle.engine.specs.Cells.{action_at, CellEntering, PutOn, LeafOf, ActionMade, LeavesFormed, leaf_result}
 use Rattle.engine.proofs.Numbers.{or_grown, numbered_value, in_left, in_right, in_split}
@@ -114,7 +114,7 @@ module _ {a : MAction} {w : ℕ} {c c1 : Counts} {s s1 : Stores} where
   pub put_makes :
       {c2 : Counts} {s2 : Stores} {n r : ℕ} {result : Result Diagram StoreFault} →
       ActionMade a c s c1 s1 n →
-      Kept c s c1 s1 →
+      NothingLost c s c1 s1 →
       LeafPresent (here c s) r →
       Done (CellEntering (action_at (here c1 s1) n) w (leaf_at (here c1 s1) r)) c1 s1 c2 s2 result →
       Done (PutOn a w (leaf_at (here c s) r)) c s c2 s2 result
@@ -167,7 +167,7 @@ module _ {M M' : List MCell} {a : MAction} {w : ℕ} (whole : M ≡ (a, w) ∷ M
   -- the rest of a leaf is refused, or made and then its first cell put on it
   pub rest_stops :
       {c c1 : Counts} {s s1 : Stores} {f : StoreFault} {result : Result Amount StoreFault} →
-      Good c s →
+      SoundStores c s →
       Done (LeafOf M') c s c1 s1 (Err f) →
       result ≡ Err f →
       Done (LeafOf M) c s c1 s1 (leaf_result result)
@@ -177,9 +177,9 @@ module _ {M M' : List MCell} {a : MAction} {w : ℕ} (whole : M ≡ (a, w) ∷ M
 
   pub first_put :
       {c c1 c2 : Counts} {s s1 s2 : Stores} {n : Amount} {result : Result Diagram StoreFault} →
-      Good c s →
+      SoundStores c s →
       (d : Done (LeafOf M') c s c1 s1 (Ok (Leaf n))) →
-      Kept c s c1 s1 →
+      NothingLost c s c1 s1 →
       Done (PutOn a w (leaf_at (here c1 s1) n.number)) c1 s1 c2 s2 result →
       Done (LeafOf M) c s c2 s2 result
   first_put {c} {c1} {c2} {s} {s1} {s2} {n} g d k e =
@@ -218,7 +218,7 @@ module _ {M M' : List MCell} {a : MAction} {w : ℕ} (whole : M ≡ (a, w) ∷ M
       subst (λ (l : List MCell). LeafFormed o ((a, w) ∷ l)) (sym (leaf_named d.made.names d.by_the_rules.0)) (subst (LeafFormed o) whole h)
 
 -- no cell at all
-pub none_made : {M : List MCell} {c : Counts} {s : Stores} {n : Amount} → M ≡ [] → n.number ≡ 0 → Good c s → Done (LeafOf M) c s c s (Ok (Leaf n))
+pub none_made : {M : List MCell} {c : Counts} {s : Stores} {n : Amount} → M ≡ [] → n.number ≡ 0 → SoundStores c s → Done (LeafOf M) c s c s (Ok (Leaf n))
 unfolding diagram_of
 none_made {M} {c} {s} {n} e z g =
     complete {Q = LeafOf M} {r = MLeaf M} [] (start g) refl

@@ -32,7 +32,7 @@ pub mod CompileRules
 pub mod OperationsAlike
 pub mod SimpleRules
 pub mod Words
-pub mod Steps
+pub mod InTurn
 pub mod Unchanged
 pub mod Calls
 pub mod Empty

@@ -6,14 +6,14 @@ use Rattle.meaning.specs.Decide.{three, Tri, below, level, above, order_actions,
 use Rattle.meaning.specs.Leaves.{Action as MAction, Cell as MCell}
 use Rattle.meaning.proofs.Gathering.{before_trans, before_self, before_differ}
 use Rattle.actions.specs.declared.actions.Action.{Action}
-use Rattle.engine.specs.declared.merging.View.{View}
-use Rattle.engine.specs.declared.merging.Strand.{Strand}
-use Rattle.engine.specs.declared.merging.Step.{Step}
+use Rattle.engine.specs.declared.merging.Selection.{Selection}
+use Rattle.engine.specs.declared.merging.CellList.{CellList}
+use Rattle.engine.specs.declared.merging.FirstCell.{FirstCell}
 use Rattle.engine.specs.State.{State}
 use Rattle.engine.specs.Leaves.{LeafPresent, leaf_at}
 use Rattle.engine.specs.Cells.{CellRead, action_at}
 use Rattle.records.specs.declared.kinds.Cell.{Cell}
-use Rattle.engine.specs.Merging.{shown_action, put_first, sift, strand, merge, sets_of, Stepped, Steps, Turned}
+use Rattle.engine.specs.Merging.{shown_action, put_first, sift, strand, merge, sets_of, FirstCellRead, FirstCellIs, MergeStepRead}
 
 pub below_before : (a b : MAction) → ActionBelow a b → Before a b
 below_before [] b h = absurd h
@@ -73,7 +73,7 @@ module _ (o : Ops) (x y : List MCell) where
     merge_greater h = (λ i. merge o (e i) (f i)) ∙ (three_above c.0 d.0 _ _ _ h ∙ ap {B = List MCell} (λ k. d ∷ merge o k m) (sym e))
 
 -- the cell under a number, as a view shows it
-module _ {s : State} {n : ℕ} {x : Cell} (v : View) (r : CellRead s n x) (a : Action) (e : a.sets ≡ action_at s x.action.number) (t : Option Action) (f : sets_of t ≡ shown_action v a.sets) where
+module _ {s : State} {n : ℕ} {x : Cell} (v : Selection) (r : CellRead s n x) (a : Action) (e : a.sets ≡ action_at s x.action.number) (t : Option Action) (f : sets_of t ≡ shown_action v a.sets) where
   sifted : sift v (leaf_at s n) ≡ put_first x.weight.number (sets_of t) (sift v (leaf_at s x.rest.number))
   unfolding sift
   sifted =
@@ -88,37 +88,37 @@ module _ {s : State} {n : ℕ} {x : Cell} (v : View) (r : CellRead s n x) (a : A
 pub read_shorter : {s : State} {n : ℕ} {x : Cell} → CellRead s n x → length (leaf_at s x.rest.number) < length (leaf_at s n)
 read_shorter r = omega (arith, ap length r.itself)
 
-pub sift_end : (s : State) (v : View) (n : ℕ) → n ≡ 0 → sift v (leaf_at s n) ≡ []
+pub sift_end : (s : State) (v : Selection) (n : ℕ) → n ≡ 0 → sift v (leaf_at s n) ≡ []
 unfolding sift
 sift_end s v n e = ap (λ (k : ℕ). sift v (leaf_at s k)) e
 
 -- what the two first cells give
-module _ {o : Ops} {s : State} {x y : Strand} where
-  pub turn_left : {t : Step} → LeafPresent s y.first.number → Stepped s x t → strand s y ≡ [] → Turned o s x y (record { action = t.action; weight = t.weight; left = t.rest; right = y })
+module _ {o : Ops} {s : State} {x y : CellList} where
+  pub turn_left : {t : FirstCell} → LeafPresent s y.first.number → FirstCellRead s x t → strand s y ≡ [] → MergeStepRead o s x y (record { action = t.action; weight = t.weight; left = t.rest; right = y })
   turn_left p t e =
       record { whole = merge_left o _ _ _ _ t.whole e; left_present = t.rest_present; right_present = p; shorter = omega (arith, ap length t.whole) }
 
-  pub turn_right : {t : Step} → LeafPresent s x.first.number → strand s x ≡ [] → Stepped s y t → Turned o s x y (record { action = t.action; weight = t.weight; left = x; right = t.rest })
+  pub turn_right : {t : FirstCell} → LeafPresent s x.first.number → strand s x ≡ [] → FirstCellRead s y t → MergeStepRead o s x y (record { action = t.action; weight = t.weight; left = x; right = t.rest })
   turn_right p e t =
       record { whole = merge_right o _ _ _ _ e t.whole; left_present = p; right_present = t.rest_present; shorter = omega (arith, ap length t.whole) }
 
   pub turn_less :
-      {t u : Step} →
+      {t u : FirstCell} →
       LeafPresent s y.first.number →
-      Stepped s x t →
-      Stepped s y u →
+      FirstCellRead s x t →
+      FirstCellRead s y u →
       ActionBelow t.action.sets u.action.sets →
-      Turned o s x y (record { action = t.action; weight = t.weight; left = t.rest; right = y })
+      MergeStepRead o s x y (record { action = t.action; weight = t.weight; left = t.rest; right = y })
   turn_less {t} {u} p T U h =
       record { whole = merge_less o _ _ _ _ _ _ T.whole U.whole (below_before _ _ h); left_present = T.rest_present; right_present = p; shorter = omega (arith, ap length T.whole) }
 
   pub turn_equal :
-      {t u : Step} {w : ℕ} →
-      Stepped s x t →
-      Stepped s y u →
+      {t u : FirstCell} {w : ℕ} →
+      FirstCellRead s x t →
+      FirstCellRead s y u →
       t.action ≡ u.action →
       w ≡ o.join t.weight u.weight →
-      Turned o s x y (record { action = t.action; weight = w; left = t.rest; right = u.rest })
+      MergeStepRead o s x y (record { action = t.action; weight = w; left = t.rest; right = u.rest })
   turn_equal {t} {u} {w} T U h e =
       record {
         whole = merge_equal o _ _ _ _ _ _ T.whole U.whole (ap (λ (a : Action). a.sets) h) ∙ ap {B = List MCell} (λ (v : ℕ). (t.action.sets, v) ∷ merge o (strand s t.rest) (strand s u.rest)) (sym e);
@@ -128,17 +128,17 @@ module _ {o : Ops} {s : State} {x y : Strand} where
       }
 
   pub turn_greater :
-      {t u : Step} →
+      {t u : FirstCell} →
       LeafPresent s x.first.number →
-      Stepped s x t →
-      Stepped s y u →
+      FirstCellRead s x t →
+      FirstCellRead s y u →
       ActionBelow u.action.sets t.action.sets →
-      Turned o s x y (record { action = u.action; weight = u.weight; left = x; right = u.rest })
+      MergeStepRead o s x y (record { action = u.action; weight = u.weight; left = x; right = u.rest })
   turn_greater {t} {u} p T U h =
       record { whole = merge_greater o _ _ _ _ _ _ T.whole U.whole (below_before _ _ h); left_present = p; right_present = U.rest_present; shorter = omega (arith, ap length U.whole) }
 
-pub steps_some : {s : State} {x : Strand} {r : Option Step} {t : Step} → r ≡ Some t → Steps s x r → Stepped s x t
-steps_some {s} {x} e h = subst (Steps s x) e h
+pub steps_some : {s : State} {x : CellList} {r : Option FirstCell} {t : FirstCell} → r ≡ Some t → FirstCellIs s x r → FirstCellRead s x t
+steps_some {s} {x} e h = subst (FirstCellIs s x) e h
 
-pub steps_none : (s : State) (x : Strand) {r : Option Step} → r ≡ None → Steps s x r → strand s x ≡ []
-steps_none s x e h = subst (Steps s x) e h
+pub steps_none : (s : State) (x : CellList) {r : Option FirstCell} → r ≡ None → FirstCellIs s x r → strand s x ≡ []
+steps_none s x e h = subst (FirstCellIs s x) e h

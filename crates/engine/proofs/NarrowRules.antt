@@ -11,13 +11,13 @@ use Rattle.faults.specs.declared.layers.StoreFault.{StoreFault}
 use Rattle.records.specs.declared.kinds.Diagram.{Diagram}
 use Rattle.records.specs.declared.kinds.Diagram.TheVariants.{Leaf, Branch}
 use Rattle.counts.specs.declared.counts.Counts.{Counts}
-use Rattle.diagrams.specs.declared.memory.Stores.{Stores}
-use Rattle.diagrams.specs.Tests.{contents}
+use Rattle.engine.specs.declared.memory.Stores.{Stores}
+use Rattle.engine.specs.Contents.{contents}
 use Rattle.format.specs.declared.settings.Amount.{Amount}
 use Rattle.records.specs.declared.kinds.Node.{Node}
 use Rattle.requests.specs.Claims.{Construction}
 use Rattle.engine.specs.State.{State, state, diagram_of, Present, Names}
-use Rattle.engine.specs.Done.{Good, Kept, Done, Entering, NodeRead}
+use Rattle.engine.specs.Done.{SoundStores, NothingLost, Done, Entering, NodeRead}
 use Rattle.engine.specs.Leaves.{LeafNarrows, leaf_at}
 use Rattle.engine.proofs.Composing.{Among, Sofar, start, next, refused, complete, tail, itself, names_grown, same_diagram, present_grown}
 use Rattle.engine.proofs.Decoding.{one_word, nodes_long}
@@ -54,7 +54,7 @@ here c s = state (contents c s)
 pub nothing : (x : List Request) → Among [] x
 nothing x q m = absurd m
 
-module _ {o : Ops} {c0 c1 : Counts} {s0 s1 : Stores} (good : Good c0 s0) {f n : ℕ} {Y : MDiagram} (Z : MDiagram) where
+module _ {o : Ops} {c0 c1 : Counts} {s0 s1 : Stores} (good : SoundStores c0 s0) {f n : ℕ} {Y : MDiagram} (Z : MDiagram) where
   pub make_stops_first :
       {k : StoreFault} {result : Result Diagram StoreFault} (d : Done (Narrows o Y f n) c0 s0 c1 s1 (Err k)) →
       result ≡ Err k →
@@ -64,7 +64,7 @@ module _ {o : Ops} {c0 c1 : Counts} {s0 s1 : Stores} (good : Good c0 s0) {f n : 
       let M = makes_any d.by_the_rules N.2 in
       refused (start good) M.0 M.1 d e M.2 (nothing M.1) M.3
 
-module _ {o : Ops} {c0 c1 : Counts} {s0 s1 : Stores} (good : Good c0 s0) {f n : ℕ} {Y Z Z' : MDiagram} {v no : Diagram} (p : Names (here c0 s0) no Z) (d1 : Done (Narrows o Y f n) c0 s0 c1 s1 (Ok v)) (k1 : Kept c0 s0 c1 s1) (i : Z' ≡ Z) where
+module _ {o : Ops} {c0 c1 : Counts} {s0 s1 : Stores} (good : SoundStores c0 s0) {f n : ℕ} {Y Z Z' : MDiagram} {v no : Diagram} (p : Names (here c0 s0) no Z) (d1 : Done (Narrows o Y f n) c0 s0 c1 s1 (Ok v)) (k_1 : NothingLost c0 s0 c1 s1) (i : Z' ≡ Z) where
   moved : {w : MDiagram} {b : List Request} → Narrows o Z' f n w b → Narrows o Z f n w b
   moved {w} {b} r = subst (λ (x : MDiagram). Narrows o x f n w b) i r
 
@@ -74,11 +74,11 @@ module _ {o : Ops} {c0 c1 : Counts} {s0 s1 : Stores} (good : Good c0 s0) {f n : 
       Done (Makes o f n Y Z) c0 s0 c2 s2 result
   make_stops_second d e =
       let M = makes_any d1.by_the_rules (moved d.by_the_rules) in
-      refused (next (start good) d1 k1) M.0 M.1 d e M.2 M.3 M.4
+      refused (next (start good) d1 k_1) M.0 M.1 d e M.2 M.3 M.4
 
-  module _ {w : Diagram} {c2 : Counts} {s2 : Stores} (d2 : Done (Narrows o Z' f n) c1 s1 c2 s2 (Ok w)) (k2 : Kept c1 s1 c2 s2) where
+  module _ {w : Diagram} {c2 : Counts} {s2 : Stores} (d2 : Done (Narrows o Z' f n) c1 s1 c2 s2 (Ok w)) (k_2 : NothingLost c1 s1 c2 s2) where
     sofar : Sofar c0 s0 (d1.asks ++ d2.asks) c2 s2
-    sofar = next (next (start good) d1 k1) d2 k2
+    sofar = next (next (start good) d1 k_1) d2 k_2
 
     pub make_yes : Names (here c2 s2) v d1.out
     make_yes = names_grown d2.made.added.grown d1.made.names
@@ -130,7 +130,7 @@ module _ {o : Ops} where
       let M = make_total o g m v w in
       (M.0, a ++ (b ++ M.1), narrows_both h p q M.2, λ q m. in_left q a (b ++ M.1) m, λ q m. in_right q a (b ++ M.1) (in_left q b M.1 m))
 
-module _ {o : Ops} {c0 c1 : Counts} {s0 s1 : Stores} (good : Good c0 s0) {f n : ℕ} where
+module _ {o : Ops} {c0 c1 : Counts} {s0 s1 : Stores} (good : SoundStores c0 s0) {f n : ℕ} where
   pub narrow_at_leaf :
       {l : List MCell} {D : MDiagram} {result : Result Diagram StoreFault} →
       D ≡ MLeaf l →
@@ -141,7 +141,7 @@ module _ {o : Ops} {c0 c1 : Counts} {s0 s1 : Stores} (good : Good c0 s0) {f n : 
       rule : Narrows o (MLeaf l) f n d.out d.asks
       rule = subst₂ (λ (r : MDiagram) (x : List Request). Narrows o (MLeaf l) f n r x) (sym d.by_the_rules.0) (sym d.by_the_rules.1) narrows_leaf
 
-module _ (o : Ops) {c0 : Counts} {s0 : Stores} (good : Good c0 s0) (f n : ℕ) {number : Amount} {x : Node} (read : NodeRead (here c0 s0) number x) where
+module _ (o : Ops) {c0 : Counts} {s0 : Stores} (good : SoundStores c0 s0) (f n : ℕ) {number : Amount} {x : Node} (read : NodeRead (here c0 s0) number x) where
   abbrev Whole : Construction
   Whole = Narrows o (diagram_of (here c0 s0) (Branch number)) f n
 
@@ -171,7 +171,7 @@ module _ (o : Ops) {c0 : Counts} {s0 : Stores} (good : Good c0 s0) (f n : ℕ) {
         let M = narrows_any x.test.field x.test.value h d.by_the_rules N.2 in
         refused (start good) M.0 M.1 d e (whole M.2) (nothing M.1) M.3
 
-    module _ (h : x.test.field ≡ f → ⊥) {v : Diagram} (d1 : Done (Narrows o (diagram_of (here c0 s0) x.yes) f n) c0 s0 c1 s1 (Ok v)) (k1 : Kept c0 s0 c1 s1) where
+    module _ (h : x.test.field ≡ f → ⊥) {v : Diagram} (d1 : Done (Narrows o (diagram_of (here c0 s0) x.yes) f n) c0 s0 c1 s1 (Ok v)) (k_1 : NothingLost c0 s0 c1 s1) where
       -- the no side is what it was
       pub no_stays : diagram_of (here c1 s1) x.no ≡ diagram_of (here c0 s0) x.no
       no_stays = same_diagram d1.made.added.grown x.no read.no_present
@@ -189,9 +189,9 @@ module _ (o : Ops) {c0 : Counts} {s0 : Stores} (good : Good c0 s0) (f n : ℕ) {
             Done Whole c0 s0 c2 s2 result
         narrow_stops_second d e =
             let M = narrows_any x.test.field x.test.value h d1.by_the_rules (back d.by_the_rules) in
-            refused (next (start good) d1 k1) M.0 M.1 d e (whole M.2) M.3 M.4
+            refused (next (start good) d1 k_1) M.0 M.1 d e (whole M.2) M.3 M.4
 
-        module _ {w : Diagram} (d2 : Done (Narrows o (diagram_of (here c1 s1) x.no) f n) c1 s1 c2 s2 (Ok w)) (k2 : Kept c1 s1 c2 s2) where
+        module _ {w : Diagram} (d2 : Done (Narrows o (diagram_of (here c1 s1) x.no) f n) c1 s1 c2 s2 (Ok w)) (k_2 : NothingLost c1 s1 c2 s2) where
           pub yes_narrowed : Names (here c2 s2) v d1.out
           yes_narrowed = names_grown d2.made.added.grown d1.made.names
 
@@ -202,7 +202,7 @@ module _ (o : Ops) {c0 : Counts} {s0 : Stores} (good : Good c0 s0) (f n : ℕ) {
               Done (Makes o x.test.field x.test.value V W) c2 s2 c3 s3 result →
               Done Whole c0 s0 c3 s3 result
           narrow_makes i j d3 =
-              tail (next (next (start good) d1 k1) d2 k2) d3
+              tail (next (next (start good) d1 k_1) d2 k_2) d3
               (subst (λ (l : List Request). Whole d3.out l) (sym (append_assoc d1.asks d2.asks d3.asks)) (whole (narrows_both h d1.by_the_rules (back d2.by_the_rules) made)))
             where
               made : Makes o x.test.field x.test.value d1.out d2.out d3.out d3.asks
@@ -212,10 +212,10 @@ pub leaf_word : (c : Counts) (s : Stores) (w : Diagram) {first : Amount} → w �
 unfolding diagram_of
 leaf_word c s w e = ap (diagram_of (here c s)) e
 
-node_counted_at : (c : Counts) (s : Stores) → Good c s → (number : Amount) → Present (here c s) (Branch number) → (0 < number.number) × (number.number ≤ c.nodes)
+node_counted_at : (c : Counts) (s : Stores) → SoundStores c s → (number : Amount) → Present (here c s) (Branch number) → (0 < number.number) × (number.number ≤ c.nodes)
 unfolding state
 node_counted_at c s g number p = (p.0, omega (arith, p.1, nodes_long (contents c s) g.sound, g.counted.nodes_counted))
 
-pub node_counted : (c : Counts) (s : Stores) → Good c s → (w : Diagram) (number : Amount) → w ≡ Branch number → Present (here c s) w → (0 < number.number) × (number.number ≤ c.nodes)
+pub node_counted : (c : Counts) (s : Stores) → SoundStores c s → (w : Diagram) (number : Amount) → w ≡ Branch number → Present (here c s) w → (0 < number.number) × (number.number ≤ c.nodes)
 unfolding state
 node_counted c s g w number e p = node_counted_at c s g number (subst (λ (x : Diagram). Present (here c s) x) e p)

@@ -10,8 +10,8 @@ use Rattle.records.specs.declared.kinds.Cell.{Cell}
 use Rattle.records.specs.declared.kinds.Diagram.{Diagram}
 use Rattle.records.specs.declared.kinds.Diagram.TheVariants.{Leaf}
 use Rattle.counts.specs.declared.counts.Counts.{Counts}
-use Rattle.diagrams.specs.declared.memory.Stores.{Stores}
-use Rattle.diagrams.specs.Tests.{Contents, contents}
+use Rattle.engine.specs.declared.memory.Stores.{Stores}
+use Rattle.engine.specs.Contents.{Contents, contents}
 use Rattle.meaning.specs.Decide.{decide}
 use Rattle.meaning.specs.Leaves.{Action as MAction, Cell as MCell, Each}
 use Rattle.meaning.specs.Diagrams.{Diagram as MDiagram, Leaf as MLeaf}
@@ -21,7 +21,7 @@ use Rattle.requests.specs.Requests.{Request, action, cell, leaf_records}
 use Rattle.requests.specs.Rules.{Negates, negates_drop, negates_pass, negates_other, one_cell, pass_cells}
 use Rattle.engine.specs.Built.{numbered_or}
 use Rattle.engine.specs.State.{State, state, diagram_of, Has, Sound}
-use Rattle.engine.specs.Done.{Good, Done}
+use Rattle.engine.specs.Done.{SoundStores, Done}
 use Rattle.engine.specs.Leaves.{LeafPresent, leaf_at}
 use Rattle.engine.specs.Cells.{CellRead, ActionPresent, action_at, LeafOf}
 use Rattle.engine.proofs.Numbers.{numbered_any, numbered_value}
@@ -55,15 +55,15 @@ module _ (c : Contents) (h : Sound c) where
       (action_held (state c) y.0.action.number r.action_present, (cell_itself (suc n) y.0 y.1, records_by k y.0.rest.number (omega (arith, g.1, g.2.2)) r.rest_present))
 
 -- every record of a leaf in store is there
-pub records_held : (c : Counts) (s : Stores) → Good c s → (n : ℕ) → LeafPresent (here c s) n → Each (Has (here c s)) (leaf_records (leaf_at (here c s) n))
+pub records_held : (c : Counts) (s : Stores) → SoundStores c s → (n : ℕ) → LeafPresent (here c s) n → Each (Has (here c s)) (leaf_records (leaf_at (here c s) n))
 records_held c s g n p = records_by (contents c s) g.sound n n (omega arith) p
 
 -- the numbers of empty leaves
-pub only_zero : (c : Counts) (s : Stores) → Good c s → (n : ℕ) → LeafPresent (here c s) n → leaf_at (here c s) n ≡ [] → n ≡ 0
+pub only_zero : (c : Counts) (s : Stores) → SoundStores c s → (n : ℕ) → LeafPresent (here c s) n → leaf_at (here c s) n ≡ [] → n ≡ 0
 unfolding state
 only_zero c s g n p e = leaf_number (contents c s) g.sound n 0 p (omega arith) g.sound.leaves_distinct e
 
-pub not_empty : (c : Counts) (s : Stores) → Good c s → (n : ℕ) → LeafPresent (here c s) n → n ≢ 0 → leaf_at (here c s) n ≢ []
+pub not_empty : (c : Counts) (s : Stores) → SoundStores c s → (n : ℕ) → LeafPresent (here c s) n → n ≢ 0 → leaf_at (here c s) n ≢ []
 not_empty c s g n p h e = h (only_zero c s g n p e)
 
 abbrev head_action : List MCell → MAction
@@ -85,7 +85,7 @@ module _ {o : Ops} (L : Laws o) where
   pass_one : pass_cells o ≡ (keep_all, o.one) ∷ []
   pass_one = choice_no (decide o.one o.zero) [] ((keep_all, o.one) ∷ []) L.one_is_not_zero
 
-  module _ {c : Counts} {s : Stores} (g : Good c s) {n : ℕ} {y : Cell} (r : CellRead (here c s) n y) where
+  module _ {c : Counts} {s : Stores} (g : SoundStores c s) {n : ℕ} {y : Cell} (r : CellRead (here c s) n y) where
     whole_pass : leaf_at (here c s) n ≡ pass_cells o → (action_at (here c s) y.action.number, y.weight.number) ∷ leaf_at (here c s) y.rest.number ≡ (keep_all, o.one) ∷ []
     whole_pass e = sym r.itself ∙ (e ∙ pass_one)
 
@@ -126,7 +126,7 @@ drop_negated o {l = l} {a = a} {w = w} e k f d =
     same : one_cell o a w ≡ pass_cells o
     same = λ i. one_cell o (k i) (f i)
 
-pub pass_negated : {o : Ops} {c : Counts} {s : Stores} {l : List MCell} {n : Amount} → Good c s → l ≢ [] → l ≡ pass_cells o → n.number ≡ 0 → Done (Negates o (MLeaf l)) c s c s (Ok (Leaf n))
+pub pass_negated : {o : Ops} {c : Counts} {s : Stores} {l : List MCell} {n : Amount} → SoundStores c s → l ≢ [] → l ≡ pass_cells o → n.number ≡ 0 → Done (Negates o (MLeaf l)) c s c s (Ok (Leaf n))
 unfolding diagram_of
 pass_negated {c = c} {s = s} g h e z =
     record {
@@ -140,7 +140,7 @@ pass_negated {c = c} {s = s} g h e z =
       };
     }
 
-pub other_negated : {o : Ops} {c : Counts} {s : Stores} {n : Amount} → Good c s → LeafPresent (here c s) n.number → leaf_at (here c s) n.number ≢ [] → leaf_at (here c s) n.number ≢ pass_cells o → Done (Negates o (MLeaf (leaf_at (here c s) n.number))) c s c s (Ok (Leaf n))
+pub other_negated : {o : Ops} {c : Counts} {s : Stores} {n : Amount} → SoundStores c s → LeafPresent (here c s) n.number → leaf_at (here c s) n.number ≢ [] → leaf_at (here c s) n.number ≢ pass_cells o → Done (Negates o (MLeaf (leaf_at (here c s) n.number))) c s c s (Ok (Leaf n))
 unfolding diagram_of
 other_negated {c = c} {s = s} {n = n} g p h k =
     record {

@@ -8,12 +8,12 @@ use Rattle.requests.specs.Rules.{Prefixes, prefixes_leaf, prefixes_yes, prefixes
 use Rattle.faults.specs.declared.layers.StoreFault.{StoreFault}
 use Rattle.records.specs.declared.kinds.Diagram.{Diagram}
 use Rattle.counts.specs.declared.counts.Counts.{Counts}
-use Rattle.diagrams.specs.declared.memory.Stores.{Stores}
-use Rattle.engine.specs.Done.{Good, Done}
+use Rattle.engine.specs.declared.memory.Stores.{Stores}
+use Rattle.engine.specs.Done.{SoundStores, Done}
 use Rattle.engine.specs.Leaves.{LeafPrefixes}
 use Rattle.engine.proofs.Chain.{begin, last}
 
-module _ {o : Ops} {c0 c1 : Counts} {s0 s1 : Stores} (good : Good c0 s0) {s : Action} {w : ℕ} {D : MDiagram} {result : Result Diagram StoreFault} where
+module _ {o : Ops} {c0 c1 : Counts} {s0 s1 : Stores} (good : SoundStores c0 s0) {s : Action} {w : ℕ} {D : MDiagram} {result : Result Diagram StoreFault} where
   pub prefix_at_leaf : {l : List MCell} {s' : Action} → s' ≡ s → D ≡ MLeaf l → Done (LeafPrefixes o s' w l) c0 s0 c1 s1 result → Done (Prefixes o s w D) c0 s0 c1 s1 result
   prefix_at_leaf {l} i e d =
       last (begin (LeafPrefixes o s w l) good (λ r x h. subst (λ (y : MDiagram). Prefixes o s w y r x) (sym e) (subst₂ (λ (y : MDiagram) (z : List Request). Prefixes o s w (MLeaf l) y z) (sym h.0) (sym h.1) prefixes_leaf))) (λ j. LeafPrefixes o (i j) w l) d

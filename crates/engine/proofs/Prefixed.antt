@@ -8,7 +8,7 @@ use Rattle.format.specs.declared.settings.Amount.{Amount}
 use Rattle.actions.specs.declared.actions.Action.{Action}
 use Rattle.records.specs.declared.kinds.Diagram.TheVariants.{Leaf}
 use Rattle.counts.specs.declared.counts.Counts.{Counts}
-use Rattle.diagrams.specs.declared.memory.Stores.{Stores}
+use Rattle.engine.specs.declared.memory.Stores.{Stores}
 use Rattle.meaning.specs.Leaves.{Action as MAction, Cell as MCell, ActionFormed, LeafFormed}
 use Rattle.meaning.specs.Diagrams.{Diagram as MDiagram, Leaf as MLeaf}
 use Rattle.meaning.specs.Constructions.{prefix_cell}
@@ -17,8 +17,8 @@ use Rattle.meaning.proofs.Making.{collect_formed}
 use Rattle.meaning.proofs.Sequencing.{compose_formed}
 use Rattle.requests.specs.Requests.{Request, action, cell, leaf_records}
 use Rattle.requests.specs.Rules.{prefix_leaf}
-use Rattle.engine.specs.declared.prefixing.Found.{Found}
-use Rattle.engine.specs.Done.{Good, Kept, Done}
+use Rattle.engine.specs.declared.prefixing.WeightedAction.{WeightedAction}
+use Rattle.engine.specs.Done.{SoundStores, NothingLost, Done}
 use Rattle.engine.specs.Leaves.{LeafPresent, leaf_at}
 use Rattle.engine.specs.Cells.{PutOn, LeafOf, LeavesFormed, leaf_result}
 use Rattle.engine.specs.Merging.{sets_of}
@@ -28,26 +28,26 @@ use Rattle.engine.proofs.LeafRules.{here, leaf_tail, leaf_named, leaf_grown, non
 use Rattle.engine.proofs.Merged.{three_below, three_level, three_above, below_before}
 use Rattle.engine.proofs.Greatest.{Cut, cut, none_left}
 
-module _ (o : Ops) (x : Found) {y : Found} {m : Option Found} (e : m ≡ Some y) where
+module _ (o : Ops) (x : WeightedAction) {y : WeightedAction} {m : Option WeightedAction} (e : m ≡ Some y) where
   pub greater_less : ActionBelow x.action.sets y.action.sets → Some (y.action.sets, y.weight) ≡ greater o (x.action.sets, x.weight) (found_cell m)
   greater_less h =
-      sym (ap (λ (u : Option Found). greater o (x.action.sets, x.weight) (found_cell u)) e ∙ three_below x.action.sets y.action.sets _ _ _ (below_before _ _ h))
+      sym (ap (λ (u : Option WeightedAction). greater o (x.action.sets, x.weight) (found_cell u)) e ∙ three_below x.action.sets y.action.sets _ _ _ (below_before _ _ h))
 
   pub greater_equal : {w : ℕ} → x.action ≡ y.action → w ≡ o.join x.weight y.weight → Some (x.action.sets, w) ≡ greater o (x.action.sets, x.weight) (found_cell m)
   greater_equal h q =
       ap (λ (v : ℕ). Some (x.action.sets, v)) q
-      ∙ sym (ap (λ (u : Option Found). greater o (x.action.sets, x.weight) (found_cell u)) e ∙ three_level x.action.sets y.action.sets _ _ _ (ap (λ (a : Action). a.sets) h))
+      ∙ sym (ap (λ (u : Option WeightedAction). greater o (x.action.sets, x.weight) (found_cell u)) e ∙ three_level x.action.sets y.action.sets _ _ _ (ap (λ (a : Action). a.sets) h))
 
   pub greater_greater : ActionBelow y.action.sets x.action.sets → Some (x.action.sets, x.weight) ≡ greater o (x.action.sets, x.weight) (found_cell m)
   greater_greater h =
-      sym (ap (λ (u : Option Found). greater o (x.action.sets, x.weight) (found_cell u)) e ∙ three_above x.action.sets y.action.sets _ _ _ (below_before _ _ h))
+      sym (ap (λ (u : Option WeightedAction). greater o (x.action.sets, x.weight) (found_cell u)) e ∙ three_above x.action.sets y.action.sets _ _ _ (below_before _ _ h))
 
-module _ (o : Ops) (x : Found) (m : Option MCell) {k : Option MCell} {b : Option Action} {a : Action} (e : b ≡ Some a) where
+module _ (o : Ops) (x : WeightedAction) (m : Option MCell) {k : Option MCell} {b : Option Action} {a : Action} (e : b ≡ Some a) where
   pub better_less : ActionBelow x.action.sets a.sets → k ≡ greater o (x.action.sets, x.weight) m → k ≡ better o (sets_of b) (x.action.sets, x.weight) m
   better_less h q =
       q ∙ sym (ap (λ (u : Option Action). better o (sets_of u) (x.action.sets, x.weight) m) e ∙ three_below x.action.sets a.sets _ _ _ (below_before _ _ h))
 
-module _ (o : Ops) (x : Found) (m : Option MCell) {b : Option Action} {a : Action} (e : b ≡ Some a) where
+module _ (o : Ops) (x : WeightedAction) (m : Option MCell) {b : Option Action} {a : Action} (e : b ≡ Some a) where
   pub better_equal : x.action ≡ a → m ≡ better o (sets_of b) (x.action.sets, x.weight) m
   better_equal h =
       sym (ap (λ (u : Option Action). better o (sets_of u) (x.action.sets, x.weight) m) e ∙ three_level x.action.sets a.sets _ _ _ (ap (λ (c : Action). c.sets) h))
@@ -66,7 +66,7 @@ pub record Selected (o : Ops) (c0 : Counts) (s0 : Stores) (l : List MCell) (b : 
   pub tail : List MCell
   pub whole : under b l ++ tail ≡ l
   pub done : Done (LeafOf tail) c0 s0 c s (Ok (Leaf n))
-  pub kept : Kept c0 s0 c s
+  pub kept : NothingLost c0 s0 c s
   pub leaves : LeavesFormed o (here c s)
 
 back_formed : {o : Ops} (k l : List MCell) → LeafFormed o (k ++ l) → LeafFormed o l
@@ -77,7 +77,7 @@ back_records : (k l : List MCell) (q : Request) → In q (leaf_records l) → In
 back_records [] l q m = m
 back_records (c ∷ k) l q m = inr (inr (back_records k l q m))
 
-pub nothing_selected : {o : Ops} {c : Counts} {s : Stores} {l : List MCell} {n : Amount} → n.number ≡ 0 → Good c s → LeavesFormed o (here c s) → Selected o c s l None c s n
+pub nothing_selected : {o : Ops} {c : Counts} {s : Stores} {l : List MCell} {n : Amount} → n.number ≡ 0 → SoundStores c s → LeavesFormed o (here c s) → Selected o c s l None c s n
 unfolding under
 nothing_selected {l = l} z g h = record { tail = []; whole = append_empty l; done = none_made refl z g; kept = kept_refl _ _; leaves = h }
 
@@ -99,9 +99,9 @@ module _ {o : Ops} {c0 c : Counts} {s0 s : Stores} {l : List MCell} {b : Option 
 
     pub next_selected :
         {c' : Counts} {s' : Stores} {n' : Amount} →
-        Good c0 s0 →
+        SoundStores c0 s0 →
         Done (PutOn e.0 e.1 (leaf_at (here c s) n.number)) c s c' s' (Ok (Leaf n')) →
-        Kept c s c' s' →
+        NothingLost c s c' s' →
         LeavesFormed o (here c' s') →
         Selected o c0 s0 l (Some e.0) c' s' n'
     next_selected g d k h =
@@ -115,7 +115,7 @@ module _ {o : Ops} {c0 c : Counts} {s0 s : Stores} {l : List MCell} {b : Option 
 
     pub next_refused :
         {c' : Counts} {s' : Stores} {x : StoreFault} {result : Result Amount StoreFault} →
-        Good c0 s0 →
+        SoundStores c0 s0 →
         Done (PutOn e.0 e.1 (leaf_at (here c s) n.number)) c s c' s' (Err x) →
         result ≡ Err x →
         Done (LeafOf l) c0 s0 c' s' (leaf_result result)
@@ -143,7 +143,7 @@ source_stays {c0 = c0} {c = c} {s0 = s0} {s = s} S k p = (long, leaf_grown S.don
     long = omega (arith, ap length S.done.made.added.grown.leaves_grown, p, length-append (here c0 s0).leaves S.done.made.added.grown.new_leaves)
 
 pub seen :
-    {o : Ops} {c0 c : Counts} {s0 s : Stores} {l : List MCell} {b : Option MAction} {n : Amount} {r t : Option Found} (a : MAction) (w k : ℕ) →
+    {o : Ops} {c0 c : Counts} {s0 s : Stores} {l : List MCell} {b : Option MAction} {n : Amount} {r t : Option WeightedAction} (a : MAction) (w k : ℕ) →
     Selected o c0 s0 l b c s n →
     LeafPresent (here c0 s0) k →
     found_cell r ≡ last (under b (prefix_leaf o a w (leaf_at (here c s) k))) →

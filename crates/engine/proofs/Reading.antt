@@ -5,11 +5,11 @@ use Rattle.meaning.specs.Leaves.{Cell as MCell, Action as MAction}
 use Rattle.actions.specs.declared.actions.Action.{Action}
 use Rattle.stores.specs.Numbers.{Numbered}
 use Rattle.counts.specs.declared.counts.Counts.{Counts}
-use Rattle.diagrams.specs.declared.memory.Stores.{Stores}
-use Rattle.diagrams.specs.Tests.{contents}
+use Rattle.engine.specs.declared.memory.Stores.{Stores}
+use Rattle.engine.specs.Contents.{contents}
 use Rattle.engine.specs.Built.{numbered_or}
 use Rattle.engine.specs.State.{State, state, Grown}
-use Rattle.engine.specs.Done.{Good}
+use Rattle.engine.specs.Done.{SoundStores}
 use Rattle.engine.specs.Leaves.{leaf_at, LeafPresent}
 use Rattle.engine.specs.Cells.{action_at}
 use Rattle.engine.proofs.Numbers.{or_grown}
@@ -30,11 +30,11 @@ module _ {X Y : Type 0} (g : X → Y) where
   numbered_map xs zero x e = cc
   numbered_map xs (suc n) x e = got_map xs n x e
 
-pub leaf_counted : (c : Counts) (s : Stores) → Good c s → (n : ℕ) → LeafPresent (here c s) n → n ≤ c.cells
+pub leaf_counted : (c : Counts) (s : Stores) → SoundStores c s → (n : ℕ) → LeafPresent (here c s) n → n ≤ c.cells
 unfolding state
 leaf_counted c s g n p = omega (arith, p, leaves_long (contents c s) g.sound, g.counted.cells_counted)
 
-pub action_counted : (c : Counts) (s : Stores) → Good c s → (n : ℕ) → n ≤ length (here c s).actions → n ≤ c.actions
+pub action_counted : (c : Counts) (s : Stores) → SoundStores c s → (n : ℕ) → n ≤ length (here c s).actions → n ≤ c.actions
 unfolding state
 action_counted c s g n p = omega (arith, p, map_length (λ (a : Action). a.sets) (contents c s).actions, g.counted.actions_counted)
 

@@ -18,7 +18,7 @@ use Rattle.requests.proofs.Again.{record_more, leaf_remade}
 use Rattle.faults.specs.declared.layers.StoreFault.{StoreFault}
 use Rattle.records.specs.declared.kinds.Diagram.{Diagram}
 use Rattle.counts.specs.declared.counts.Counts.{Counts}
-use Rattle.diagrams.specs.declared.memory.Stores.{Stores}
+use Rattle.engine.specs.declared.memory.Stores.{Stores}
 use Rattle.engine.specs.declared.memo.Entry.{Entry}
 use Rattle.engine.specs.declared.memo.PackedEntry.{PackedEntry}
 use Rattle.engine.specs.declared.memo.Operation.{Operation}
@@ -26,7 +26,7 @@ use Rattle.engine.specs.declared.memo.Operation.TheVariants.{Narrow, Join, Choos
 use Rattle.engine.specs.Built.{some_or, numbered_or}
 use Rattle.engine.specs.State.{State, Present, Names, Has, Grown}
 use Rattle.engine.specs.Cells.{LeavesFormed}
-use Rattle.engine.specs.Done.{Good, Done, Added}
+use Rattle.engine.specs.Done.{SoundStores, Done, Added}
 use Rattle.engine.specs.Memo.{Written, asked_for, Fits, Remembered, Remembers, AllRemade, Noted, Recalled, packed_entry}
 use Rattle.engine.proofs.Numbers.{each_map, or_grown}
 use Rattle.engine.proofs.Composing.{names_grown, has_grown, same_diagram, present_grown, grown_refl, complete, kept_refl}
@@ -104,7 +104,7 @@ module _ {o : Ops} where
   -- what is remembered is done
   pub recalled :
       {c : Counts} {s : Stores} (l : List (Option PackedEntry)) (x : Operation) (left right : Diagram) {w : Diagram} →
-      Good c s →
+      SoundStores c s →
       Remembers o (here c s) l →
       Recalled l x left right w →
       Done (asked_for o (here c s) x left right) c s c s (Ok w)

@@ -10,9 +10,9 @@ use Rattle.requests.proofs.Total.{make_total, choose_total, prefix_total, sequen
 use Rattle.faults.specs.declared.layers.StoreFault.{StoreFault}
 use Rattle.records.specs.declared.kinds.Diagram.{Diagram}
 use Rattle.counts.specs.declared.counts.Counts.{Counts}
-use Rattle.diagrams.specs.declared.memory.Stores.{Stores}
-use Rattle.engine.specs.Done.{Good, Kept, Done}
-use Rattle.engine.specs.Steps.{Then}
+use Rattle.engine.specs.declared.memory.Stores.{Stores}
+use Rattle.engine.specs.Done.{SoundStores, NothingLost, Done}
+use Rattle.engine.specs.InTurn.{Then}
 use Rattle.engine.proofs.Chain.{Pending, begin, step, stop, last, then_total}
 
 pub record Sides (Q : Construction) (F : MDiagram → Construction) (G : MDiagram → MDiagram → Construction) (Y Z : MDiagram) : Type 0 where
@@ -20,7 +20,7 @@ pub record Sides (Q : Construction) (F : MDiagram → Construction) (G : MDiagra
   pub side_total : (d : MDiagram) → AtLeastOne (F d)
   pub node_total : (v w : MDiagram) → AtLeastOne (G v w)
 
-module _ {Q : Construction} {F : MDiagram → Construction} {G : MDiagram → MDiagram → Construction} {Y Z : MDiagram} (S : Sides Q F G Y Z) {c0 : Counts} {s0 : Stores} (good : Good c0 s0) where
+module _ {Q : Construction} {F : MDiagram → Construction} {G : MDiagram → MDiagram → Construction} {Y Z : MDiagram} (S : Sides Q F G Y Z) {c0 : Counts} {s0 : Stores} (good : SoundStores c0 s0) where
   started : Pending Q c0 s0 [] (Then (F Y) (λ v. Then (F Z) (λ w. G v w))) c0 s0
   started =
       begin (Then (F Y) (λ v. Then (F Z) (λ w. G v w))) good
@@ -29,12 +29,12 @@ module _ {Q : Construction} {F : MDiagram → Construction} {G : MDiagram → MD
   pub stops_first : {c1 : Counts} {s1 : Stores} {k : StoreFault} {result : Result Diagram StoreFault} (d : Done (F Y) c0 s0 c1 s1 (Err k)) → result ≡ Err k → Done Q c0 s0 c1 s1 result
   stops_first d e = stop started refl (λ q. then_total (S.side_total Z) (λ w. S.node_total q w)) d e
 
-  module _ {c1 : Counts} {s1 : Stores} {v : Diagram} (d1 : Done (F Y) c0 s0 c1 s1 (Ok v)) (k1 : Kept c0 s0 c1 s1) {R : Construction} (e1 : R ≡ F Z) {c2 : Counts} {s2 : Stores} where
+  module _ {c1 : Counts} {s1 : Stores} {v : Diagram} (d1 : Done (F Y) c0 s0 c1 s1 (Ok v)) (k_1 : NothingLost c0 s0 c1 s1) {R : Construction} (e1 : R ≡ F Z) {c2 : Counts} {s2 : Stores} where
     pub stops_second : {k : StoreFault} {result : Result Diagram StoreFault} (d : Done R c1 s1 c2 s2 (Err k)) → result ≡ Err k → Done Q c0 s0 c2 s2 result
-    stops_second d e = stop (step started refl d1 k1) e1 (λ q. S.node_total d1.out q) d e
+    stops_second d e = stop (step started refl d1 k_1) e1 (λ q. S.node_total d1.out q) d e
 
-    pub made_of_both : {w : Diagram} (d2 : Done R c1 s1 c2 s2 (Ok w)) → Kept c1 s1 c2 s2 → {T : Construction} {c3 : Counts} {s3 : Stores} {result : Result Diagram StoreFault} → T ≡ G d1.out d2.out → Done T c2 s2 c3 s3 result → Done Q c0 s0 c3 s3 result
-    made_of_both d2 k2 e d3 = last (step (step started refl d1 k1) e1 d2 k2) e d3
+    pub made_of_both : {w : Diagram} (d2 : Done R c1 s1 c2 s2 (Ok w)) → NothingLost c1 s1 c2 s2 → {T : Construction} {c3 : Counts} {s3 : Stores} {result : Result Diagram StoreFault} → T ≡ G d1.out d2.out → Done T c2 s2 c3 s3 result → Done Q c0 s0 c3 s3 result
+    made_of_both d2 k_2 e d3 = last (step (step started refl d1 k_1) e1 d2 k_2) e d3
 
 module _ {o : Ops} {D Y Z : MDiagram} {f n : ℕ} (whole : D ≡ MNode f n Y Z) where
   pub negate_sides : Sides (Negates o D) (Negates o) (Makes o f n) Y Z

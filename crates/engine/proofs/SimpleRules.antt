@@ -13,11 +13,11 @@ use Rattle.format.specs.declared.settings.Amount.{Amount}
 use Rattle.records.specs.declared.kinds.Diagram.{Diagram}
 use Rattle.records.specs.declared.kinds.Diagram.TheVariants.{Leaf}
 use Rattle.counts.specs.declared.counts.Counts.{Counts}
-use Rattle.diagrams.specs.declared.memory.Stores.{Stores}
-use Rattle.engine.specs.Done.{Good, Kept, Done, Entering}
+use Rattle.engine.specs.declared.memory.Stores.{Stores}
+use Rattle.engine.specs.Done.{SoundStores, NothingLost, Done, Entering}
 use Rattle.engine.specs.Rounds.{Passes}
 use Rattle.engine.specs.Compiling.{Singles}
-use Rattle.engine.specs.Steps.{Then}
+use Rattle.engine.specs.InTurn.{Then}
 use Rattle.engine.proofs.Composing.{start, complete}
 use Rattle.engine.proofs.Chain.{Pending, begin, step, stop, last}
 use Rattle.engine.proofs.FollowRules.{empty_leaf}
@@ -26,7 +26,7 @@ use Rattle.engine.proofs.NarrowRules.{here}
 abbrev Over : ℕ → ℕ → MDiagram → Construction
 Over f n p = Entering f n p (MLeaf [])
 
-module _ {o : Ops} {c : Counts} {s : Stores} (g : Good c s) where
+module _ {o : Ops} {c : Counts} {s : Stores} (g : SoundStores c s) where
   pub drop_done : {zero : Amount} → zero.number ≡ 0 → Done (Compiled o Drop) c s c s (Ok (Leaf zero))
   drop_done {zero} e = complete [] (start g) refl (empty_leaf (here c s) zero e) compiled_drop
 
@@ -55,5 +55,5 @@ module _ {o : Ops} {c : Counts} {s : Stores} (g : Good c s) where
     pub test_stops : {c' : Counts} {s' : Stores} {k : StoreFault} {result : Result Diagram StoreFault} (d : Done (Passes o) c s c' s' (Err k)) → result ≡ Err k → Done (Compiled o (Test f n)) c s c' s' result
     test_stops d e = stop test_started refl (λ q. (_, _, (refl, refl))) d e
 
-    pub test_made : {c' c'' : Counts} {s' s'' : Stores} {w : Diagram} {Y Z : MDiagram} {result : Result Diagram StoreFault} (d : Done (Passes o) c s c' s' (Ok w)) → Kept c s c' s' → Y ≡ d.out → Z ≡ MLeaf [] → Done (Entering f n Y Z) c' s' c'' s'' result → Done (Compiled o (Test f n)) c s c'' s'' result
+    pub test_made : {c' c'' : Counts} {s' s'' : Stores} {w : Diagram} {Y Z : MDiagram} {result : Result Diagram StoreFault} (d : Done (Passes o) c s c' s' (Ok w)) → NothingLost c s c' s' → Y ≡ d.out → Z ≡ MLeaf [] → Done (Entering f n Y Z) c' s' c'' s'' result → Done (Compiled o (Test f n)) c s c'' s'' result
     test_made d k i j d2 = last (step test_started refl d k) (λ h. Entering f n (i h) (j h)) d2

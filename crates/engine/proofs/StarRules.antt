@@ -9,16 +9,16 @@ use Rattle.meaning.proofs.Sequencing.{sequenced}
 use Rattle.requests.specs.Requests.{Request, leaf_records}
 use Rattle.requests.specs.Rules.{Sequences, Joins, Rounds, rounds_end, rounds_on, Stars, stars_rounds, pass_cells}
 use Rattle.requests.proofs.Total.{join_total}
-use Rattle.engine.specs.Steps.{Then}
+use Rattle.engine.specs.InTurn.{Then}
 use Rattle.engine.proofs.Alike.{joins_alike}
 use Rattle.engine.proofs.Chain.{Pending, begin, step, stop, last}
 use Rattle.requests.proofs.Claims.{star_answers, join_gives, sequence_gives, rules_agree}
 use Rattle.faults.specs.declared.layers.StoreFault.{StoreFault}
 use Rattle.records.specs.declared.kinds.Diagram.{Diagram}
 use Rattle.counts.specs.declared.counts.Counts.{Counts}
-use Rattle.diagrams.specs.declared.memory.Stores.{Stores}
+use Rattle.engine.specs.declared.memory.Stores.{Stores}
 use Rattle.engine.specs.State.{diagram_of, Names}
-use Rattle.engine.specs.Done.{Good, Kept, Done}
+use Rattle.engine.specs.Done.{SoundStores, NothingLost, Done}
 use Rattle.engine.specs.Rounds.{NextRound, Passes, rest, next_round}
 use Rattle.engine.proofs.Numbers.{in_left, in_right}
 use Rattle.engine.proofs.Composing.{Among, Sofar, start, next, refused, complete, names_grown}
@@ -26,14 +26,14 @@ use Rattle.engine.proofs.Decoding.{one_word}
 use Rattle.engine.proofs.NarrowRules.{here, nothing}
 use Rattle.engine.proofs.Ending.{round_falls}
 
-module _ {o : Ops} {c0 : Counts} {s0 : Stores} (good : Good c0 s0) {D S : MDiagram} where
+module _ {o : Ops} {c0 : Counts} {s0 : Stores} (good : SoundStores c0 s0) {D S : MDiagram} where
   round_started : Pending (NextRound o D S) c0 s0 [] (Then (Sequences o S D) (λ q. Joins o (MLeaf (pass_cells o)) q)) c0 s0
   round_started = begin (Then (Sequences o S D) (λ q. Joins o (MLeaf (pass_cells o)) q)) good (λ r x t. (t.between, t.asks, t.more, t.first, t.second, t.whole))
 
   pub round_stops : {c1 : Counts} {s1 : Stores} {k : StoreFault} {result : Result Diagram StoreFault} (d : Done (Sequences o S D) c0 s0 c1 s1 (Err k)) → result ≡ Err k → Done (NextRound o D S) c0 s0 c1 s1 result
   round_stops d e = stop round_started refl (join_total o (MLeaf (pass_cells o))) d e
 
-  pub round_made : {c1 c2 : Counts} {s1 s2 : Stores} {w : Diagram} {P W : MDiagram} {result : Result Diagram StoreFault} (d : Done (Sequences o S D) c0 s0 c1 s1 (Ok w)) → Kept c0 s0 c1 s1 → P ≡ MLeaf (pass_cells o) → W ≡ d.out → Done (Joins o P W) c1 s1 c2 s2 result → Done (NextRound o D S) c0 s0 c2 s2 result
+  pub round_made : {c1 c2 : Counts} {s1 s2 : Stores} {w : Diagram} {P W : MDiagram} {result : Result Diagram StoreFault} (d : Done (Sequences o S D) c0 s0 c1 s1 (Ok w)) → NothingLost c0 s0 c1 s1 → P ≡ MLeaf (pass_cells o) → W ≡ d.out → Done (Joins o P W) c1 s1 c2 s2 result → Done (NextRound o D S) c0 s0 c2 s2 result
   round_made d k i j d2 = last (step round_started refl d k) (joins_alike o i j) d2
 
 -- from here on the rules give these rounds
@@ -79,7 +79,7 @@ module _ {o : Ops} (L : Laws o) {d : MDiagram} (h : Formed o d) where
       let i = S.nothing_else q a p in
       (J.nothing_else t b (subst (λ (y : MDiagram). Joins o (pass_diagram o) y t b) i.0 j)).0
 
-  pub first_made : {c c' : Counts} {s s' : Stores} {body last : Diagram} → Good c s → Names (here c s) body d → (p : Done (Passes o) c s c' s' (Ok last)) → Kept c s c' s' → RoundsMade o c s d body last c' s' last
+  pub first_made : {c c' : Counts} {s s' : Stores} {body last : Diagram} → SoundStores c s → Names (here c s) body d → (p : Done (Passes o) c s c' s' (Ok last)) → NothingLost c s c' s' → RoundsMade o c s d body last c' s' last
   unfolding round
   first_made g n p k =
       let A = star_answers o L d h in
@@ -101,7 +101,7 @@ module _ {o : Ops} (L : Laws o) {d : MDiagram} (h : Formed o d) where
     moved : {t : MDiagram} {x : List Request} → NextRound o D S t x → NextRound o d (round o d m.steps) t x
     moved {t} {x} n = subst₂ (λ (y z : MDiagram). NextRound o y z t x) i j n
 
-    pub star_ends : {c'' : Counts} {s'' : Stores} {w : Diagram} (n : Done (NextRound o D S) c' s' c'' s'' (Ok w)) → Kept c' s' c'' s'' → w ≡ last → Done (Stars o d) c s c'' s'' (Ok last)
+    pub star_ends : {c'' : Counts} {s'' : Stores} {w : Diagram} (n : Done (NextRound o D S) c' s' c'' s'' (Ok w)) → NothingLost c' s' c'' s'' → w ≡ last → Done (Stars o d) c s c'' s'' (Ok last)
     star_ends {c''} {s''} {w} n k e = finish (moved n.by_the_rules)
       where
         old : Names (here c'' s'') last (round o d m.steps)
@@ -115,7 +115,7 @@ module _ {o : Ops} (L : Laws o) {d : MDiagram} (h : Formed o d) where
             complete (m.asks ++ n.asks) (next m.sofar n k) refl old
             (subst (λ (x : List Request). Stars o d (round o d m.steps) (m.asks ++ x)) (sym f) (m.goes_on (round o d m.steps) (a ++ b) (rounds_end p r same)))
 
-    pub one_more : {c'' : Counts} {s'' : Stores} {w : Diagram} (n : Done (NextRound o D S) c' s' c'' s'' (Ok w)) → Kept c' s' c'' s'' → (w ≡ last → ⊥) → RoundsMade o c s d body pass c'' s'' w × (n.out ≢ round o d m.steps) × (n.out ≡ round o d (suc m.steps))
+    pub one_more : {c'' : Counts} {s'' : Stores} {w : Diagram} (n : Done (NextRound o D S) c' s' c'' s'' (Ok w)) → NothingLost c' s' c'' s'' → (w ≡ last → ⊥) → RoundsMade o c s d body pass c'' s'' w × (n.out ≢ round o d m.steps) × (n.out ≡ round o d (suc m.steps))
     one_more {c''} {s''} {w} n k e = (made (moved n.by_the_rules), differ, is)
       where
         old : Names (here c'' s'') last (round o d m.steps)
@@ -163,7 +163,7 @@ module _ {o : Ops} (L : Laws o) {d : MDiagram} (h : Formed o d) where
         (λ q k. in_left q m.asks A.asks k)
         (λ q k. in_right q m.asks A.asks (P.3 q (subst (λ (x : List Request). In q x) (sym U.1) k)))
 
-  pub pass_stops : {c c' : Counts} {s s' : Stores} {f : StoreFault} {result : Result Diagram StoreFault} → Good c s → (p : Done (Passes o) c s c' s' (Err f)) → result ≡ Err f → Done (Stars o d) c s c' s' result
+  pub pass_stops : {c c' : Counts} {s s' : Stores} {f : StoreFault} {result : Result Diagram StoreFault} → SoundStores c s → (p : Done (Passes o) c s c' s' (Err f)) → result ≡ Err f → Done (Stars o d) c s c' s' result
   pass_stops {c} {c'} {s} {s'} {f} {result} g p e = go (star_answers o L d h).1.by_the_rules
     where
       go : {r : MDiagram} {a : List Request} → Stars o d r a → Done (Stars o d) c s c' s' result

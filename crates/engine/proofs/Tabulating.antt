@@ -15,8 +15,8 @@ use Rattle.listing.specs.Rows.{rows_of}
 use Rattle.meaning.specs.Diagrams.{Diagram as MDiagram}
 use Rattle.records.specs.declared.kinds.Diagram.{Diagram}
 use Rattle.counts.specs.declared.counts.Counts.{Counts}
-use Rattle.diagrams.specs.declared.memory.Stores.{Stores}
-use Rattle.diagrams.specs.Tests.{contents}
+use Rattle.engine.specs.declared.memory.Stores.{Stores}
+use Rattle.engine.specs.Contents.{contents}
 use Rattle.stored.specs.Stored.{Holdings}
 use Rattle.engine.specs.declared.memo.PackedEntry.{PackedEntry}
 use Rattle.engine.specs.State.{state, diagram_of}

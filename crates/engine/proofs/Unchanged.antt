@@ -15,8 +15,8 @@ use Rattle.records.specs.declared.kinds.Diagram.{Diagram}
 use Rattle.records.specs.declared.kinds.Diagram.TheVariants.{Leaf, Branch}
 use Rattle.stores.specs.Numbers.{Numbered}
 use Rattle.counts.specs.declared.counts.Counts.{Counts}
-use Rattle.diagrams.specs.declared.memory.Stores.{Stores}
-use Rattle.diagrams.specs.Tests.{contents}
+use Rattle.engine.specs.declared.memory.Stores.{Stores}
+use Rattle.engine.specs.Contents.{contents}
 use Rattle.requests.specs.Requests.{Request, node, leaf_records}
 use Rattle.requests.specs.Rules.{Narrows, Makes, Prefixes, Joins, joins_leaves, joins_split, Negates, negates_drop, negates_pass, negates_other, pass_cells, compiled_drop, compiled_pass, compiled_test, compiled_set, compiled_cost}
 use Rattle.requests.specs.Claims.{Construction}
@@ -26,7 +26,7 @@ use Rattle.requests.proofs.Holding.{two}
 use Rattle.requests.proofs.Unique.{none_some}
 use Rattle.engine.specs.declared.memo.PackedEntry.{PackedEntry}
 use Rattle.engine.specs.State.{State, state, diagram_of, Present, Names, Has, Grown}
-use Rattle.engine.specs.Done.{Good, Done, Entering, NodeRead}
+use Rattle.engine.specs.Done.{SoundStores, Done, Entering, NodeRead}
 use Rattle.engine.specs.Leaves.{LeafPresent, leaf_at, SetsTo, Stays, IsDrop}
 use Rattle.engine.specs.Cells.{LeavesFormed, number_of, CellRead, action_at}
 use Rattle.engine.specs.Memo.{Remembers, AllRemade}
@@ -74,13 +74,13 @@ record Rooted (s : State) (f n : ℕ) (y z : MDiagram) : Type 0 where
   no : Diagram
   no_names : Names s no z
 
-branch_read : (c : Counts) (s : Stores) → Good c s → (k : Amount) → Present (here c s) (Branch k) → (x : Node) × NodeRead (here c s) k x
+branch_read : (c : Counts) (s : Stores) → SoundStores c s → (k : Amount) → Present (here c s) (Branch k) → (x : Node) × NodeRead (here c s) k x
 unfolding state
 branch_read c s g k p =
     let x = numbered_any (contents c s).nodes k.number p.0 (omega (arith, p.1, nodes_long (contents c s) g.sound)) in
     (x.0, read_node (contents c s) g.sound k x.0 x.1)
 
-rooted : (c : Counts) (s : Stores) → Good c s → (w : Diagram) {f n : ℕ} {y z : MDiagram} → Names (here c s) w (MNode f n y z) → Rooted (here c s) f n y z
+rooted : (c : Counts) (s : Stores) → SoundStores c s → (w : Diagram) {f n : ℕ} {y z : MDiagram} → Names (here c s) w (MNode f n y z) → Rooted (here c s) f n y z
 unfolding diagram_of
 rooted c s g (Leaf k) m = absurd (true≢false (ap is_leaf m.stands))
 rooted c s g (Branch k) {f} {n} {y} {z} m =
@@ -94,7 +94,7 @@ rooted c s g (Branch k) {f} {n} {y} {z} m =
       no_names = record { present = x.1.no_present; stands = sym (ap no_of x.1.itself) ∙ ap no_of m.stands };
     }
 
-module _ {o : Ops} {c : Counts} {s : Stores} (g : Good c s) (f : LeavesFormed o (here c s)) (r : AllRemade o (here c s)) where
+module _ {o : Ops} {c : Counts} {s : Stores} (g : SoundStores c s) (f : LeavesFormed o (here c s)) (r : AllRemade o (here c s)) where
   pub settled : (d : MDiagram) (w : Diagram) → Names (here c s) w d → Settled o (Has (here c s)) d
   settled (MLeaf l) w m =
       let p = leaf_only c s g w m.present (ap root m.stands) in
@@ -106,7 +106,7 @@ module _ {o : Ops} {c : Counts} {s : Stores} (g : Good c s) (f : LeavesFormed o 
       (r (node f' n y z) x.held, settled y x.yes x.yes_names, settled z x.no x.no_names)
 
 -- what gives an operand back is done
-pub already : {c : Counts} {s : Stores} {R : Construction} → Good c s → (w : Diagram) → Present (here c s) w → Again (Has (here c s)) R (diagram_of (here c s) w) → Done R c s c s (Ok w)
+pub already : {c : Counts} {s : Stores} {R : Construction} → SoundStores c s → (w : Diagram) → Present (here c s) w → Again (Has (here c s)) R (diagram_of (here c s) w) → Done R c s c s (Ok w)
 already {c} {s} g w p a =
     record {
       out = diagram_of (here c s) w;
@@ -224,7 +224,7 @@ module _ {s : State} {f n first k : ℕ} (h : Sought s f n first k) where
 pub sought_first : {s : State} {f n first : ℕ} → LeafPresent s first → Sought s f n first first
 sought_first p = record { present = p; ahead = λ q. q; back = λ q. q }
 
-pub no_leaf : (f n : ℕ) {c : Counts} {s : Stores} {w : Diagram} {k : Amount} → Good c s → Present (here c s) w → w ≡ Branch k → Stays f n (diagram_of (here c s) w) → ⊥
+pub no_leaf : (f n : ℕ) {c : Counts} {s : Stores} {w : Diagram} {k : Amount} → SoundStores c s → Present (here c s) w → w ≡ Branch k → Stays f n (diagram_of (here c s) w) → ⊥
 no_leaf f n {c} {s} {w} {k} g p e h =
     let x = branch_read c s g k (subst (Present (here c s)) e p) in
     subst (Stays f n) (ap (diagram_of (here c s)) e ∙ x.1.itself) h
@@ -243,7 +243,7 @@ drops s (Branch n) e = absurd e
 
 -- the shortcuts
 
-module _ {o : Ops} (L : Laws o) {c : Counts} {s : Stores} (g : Good c s) (k : LeavesFormed o (here c s)) (r : AllRemade o (here c s)) where
+module _ {o : Ops} (L : Laws o) {c : Counts} {s : Stores} (g : SoundStores c s) (k : LeavesFormed o (here c s)) (r : AllRemade o (here c s)) where
   settled_word : (w : Diagram) → Present (here c s) w → Settled o (Has (here c s)) (diagram_of (here c s) w)
   settled_word w p = settled g k r (diagram_of (here c s) w) w (itself (here c s) w p)
 
@@ -271,7 +271,7 @@ module _ {o : Ops} (L : Laws o) {c : Counts} {s : Stores} (g : Good c s) (k : Le
       (already g w p (pass_prefixed L (Has (here c s)) (diagram_of (here c s) w) (settled_word w p)))
 
 -- a node in store is made again
-pub node_again : {o : Ops} {c : Counts} {s : Stores} {f n : ℕ} {y z : MDiagram} {w : Diagram} → Good c s → AllRemade o (here c s) → Names (here c s) w (MNode f n y z) → Done (Makes o f n y z) c s c s (Ok w)
+pub node_again : {o : Ops} {c : Counts} {s : Stores} {f n : ℕ} {y z : MDiagram} {w : Diagram} → SoundStores c s → AllRemade o (here c s) → Names (here c s) w (MNode f n y z) → Done (Makes o f n y z) c s c s (Ok w)
 node_again {o} {c} {s} {f} {n} {y} {z} {w} g r m =
     already g w m.present (subst (Again (Has (here c s)) (Makes o f n y z)) (sym m.stands) (r (node f n y z) (rooted c s g w m).held).again)
 

@@ -1,4 +1,4 @@
--- Leaves by their cells: what is read of them, and what enters them.
+-- Leaves by their cells: what is read of them, and what enters them. It serves proofs alone: what the engine promises is in Views, Listed and what they cite.
 use Rattle.std.specs.Prelude.{◌≡◌, ℕ, ◌≤◌, ◌<◌, List, [], ◌∷◌, length, Ok, Err, Result, MatchResult}
 use Rattle.weights.specs.Weights.{Ops}
 use Rattle.meaning.specs.Leaves.{Action as MAction, Cell as MCell, LeafFormed}
@@ -11,12 +11,12 @@ use Rattle.faults.specs.declared.layers.StoreFault.{StoreFault}
 use Rattle.faults.specs.declared.layers.StoreFault.TheVariants.{Full}
 use Rattle.stores.specs.Numbers.{Numbered}
 use Rattle.counts.specs.declared.counts.Counts.{Counts}
-use Rattle.diagrams.specs.declared.memory.Stores.{Stores}
-use Rattle.diagrams.specs.Tests.{contents}
+use Rattle.engine.specs.declared.memory.Stores.{Stores}
+use Rattle.engine.specs.Contents.{contents}
 use Rattle.requests.specs.Requests.{Request, action, cell, leaf_records}
 use Rattle.engine.specs.Built.{numbered_or}
 use Rattle.engine.specs.State.{State, state}
-use Rattle.engine.specs.Done.{Added, Over, Good, rooms}
+use Rattle.engine.specs.Done.{Added, Over, SoundStores, rooms}
 use Rattle.engine.specs.Leaves.{LeafPresent, leaf_at}
 
 abbrev pub ActionPresent : State → ℕ → Type 0
@@ -50,7 +50,7 @@ PutOn a w l r x = (r ≡ MLeaf ((a, w) ∷ l)) × (x ≡ action a ∷ cell a w l
 
 -- the action has the number, and nothing else was added
 pub record ActionMade (a : MAction) (c : Counts) (s : Stores) (c' : Counts) (s' : Stores) (n : ℕ) : Type 0 where
-  pub good : Good c' s'
+  pub good : SoundStores c' s'
   pub numbered : Numbered (state (contents c' s')).actions n a
   pub added : Added (state (contents c s)) (action a ∷ []) (state (contents c' s'))
 

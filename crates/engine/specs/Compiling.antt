@@ -1,4 +1,4 @@
--- What compiling does.
+-- What compiling does. It serves proofs alone: what the engine promises is in Views, Listed and what they cite.
 use Rattle.std.specs.Prelude.{◌≡◌, ℕ, List, Result}
 use Rattle.weights.specs.Weights.{Ops}
 use Rattle.format.specs.Policy.{Policy}
@@ -6,7 +6,7 @@ use Rattle.checking.specs.Checking.{Accepted}
 use Rattle.faults.specs.declared.layers.StoreFault.{StoreFault}
 use Rattle.records.specs.declared.kinds.Diagram.{Diagram}
 use Rattle.counts.specs.declared.counts.Counts.{Counts}
-use Rattle.diagrams.specs.declared.memory.Stores.{Stores}
+use Rattle.engine.specs.declared.memory.Stores.{Stores}
 use Rattle.requests.specs.Rules.{Compiled, one_cell}
 use Rattle.requests.specs.Requests.{Request, leaf_records}
 use Rattle.meaning.specs.Leaves.{Action}

@@ -1,4 +1,4 @@
--- What a construction over the stores does.
+-- What a construction over the stores does. It serves proofs alone: what the engine promises is in Views, Listed and what they cite.
 use Rattle.std.specs.Prelude.{◌≡◌, ℕ, ◌≤◌, ◌⊎◌, List, [], ◌∷◌, MatchResult, Result}
 use Rattle.weights.specs.Order.{In}
 use Rattle.meaning.specs.Leaves.{Each}
@@ -11,8 +11,8 @@ use Rattle.faults.specs.declared.layers.StoreFault.{StoreFault}
 use Rattle.faults.specs.declared.layers.StoreFault.TheVariants.{Full}
 use Rattle.stores.specs.Numbers.{room}
 use Rattle.counts.specs.declared.counts.Counts.{Counts}
-use Rattle.diagrams.specs.declared.memory.Stores.{Stores}
-use Rattle.diagrams.specs.Tests.{contents, SameMemory}
+use Rattle.engine.specs.declared.memory.Stores.{Stores}
+use Rattle.engine.specs.Contents.{contents, SameMemory}
 use Rattle.requests.specs.Requests.{Request, node}
 use Rattle.requests.specs.Claims.{Construction}
 pub use Rattle.stored.specs.Grows.{Kind, actions, cells, nodes, kind_of, Apart, Over}
@@ -31,12 +31,12 @@ pub record Added (s : State) (a : List Request) (s' : State) : Type 0 where
   pub nothing_else : (q : Request) → Has s' q → Has s q ⊎ In q a
 
 -- the stores whose counts these are are sound
-pub record Good (c : Counts) (s : Stores) : Type 0 where
+pub record SoundStores (c : Counts) (s : Stores) : Type 0 where
   pub sound : Sound (contents c s)
   pub counted : Counted c s
 
 -- counts only rise, and the memory and what was in it stay
-pub record Kept (c : Counts) (s : Stores) (c' : Counts) (s' : Stores) : Type 0 where
+pub record NothingLost (c : Counts) (s : Stores) (c' : Counts) (s' : Stores) : Type 0 where
   pub actions_rise : c.actions ≤ c'.actions
   pub cells_rise : c.cells ≤ c'.cells
   pub nodes_rise : c.nodes ≤ c'.nodes
@@ -45,7 +45,7 @@ pub record Kept (c : Counts) (s : Stores) (c' : Counts) (s' : Stores) : Type 0 w
 
 -- the word of the diagram r, and what it asked for was added
 pub record Made (r : MDiagram) (a : List Request) (c : Counts) (s : Stores) (c' : Counts) (s' : Stores) (w : Diagram) : Type 0 where
-  pub good : Good c' s'
+  pub good : SoundStores c' s'
   pub names : Names (state (contents c' s')) w r
   pub added : Added (state (contents c s)) a (state (contents c' s'))
 

@@ -1,9 +1,9 @@
--- The greatest cell of an ascending list below a bound.
+-- The greatest cell of an ascending list below a bound. It serves proofs alone: what the engine promises is in Views, Listed and what they cite.
 use Rattle.std.specs.Prelude.{List, [], ◌∷◌, Some, None, Option}
 use Rattle.weights.specs.Weights.{Ops}
 use Rattle.meaning.specs.Decide.{choice, decide, three, order_actions}
 use Rattle.meaning.specs.Leaves.{Action as MAction, Cell as MCell}
-use Rattle.engine.specs.declared.prefixing.Found.{Found}
+use Rattle.engine.specs.declared.prefixing.WeightedAction.{WeightedAction}
 
 -- the cells up to the first that is not below the bound
 unfoldable pub under : Option MAction → List MCell → List MCell
@@ -33,6 +33,6 @@ better o (Some b) c m = three (order_actions c.0 b) (greater o c m) m m
 abbrev pub entered : Ops → Option MAction → MCell → Option MCell → Option MCell
 entered o b c m = choice (decide c.1 o.zero) m (better o b c m)
 
-abbrev pub found_cell : Option Found → Option MCell
+abbrev pub found_cell : Option WeightedAction → Option MCell
 found_cell None = None
 found_cell (Some x) = Some (x.action.sets, x.weight)

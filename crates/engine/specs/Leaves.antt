@@ -1,4 +1,4 @@
--- Leaves in store.
+-- Leaves in store. It serves proofs alone: what the engine promises is in Views, Listed and what they cite.
 use Rattle.std.specs.Prelude.{◌≡◌, ℕ, ◌≤◌, ◌⊎◌, List, [], ◌∷◌, length, Some, None, Option, slice_index_or}
 use Rattle.weights.specs.Weights.{Ops}
 use Rattle.format.specs.declared.settings.Setting.{Setting}

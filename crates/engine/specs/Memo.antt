@@ -1,4 +1,4 @@
--- What a memo remembers.
+-- What a memo remembers. It serves proofs alone: what the engine promises is in Views, Listed and what they cite.
 use Rattle.std.specs.Prelude.{◌≡◌, ℕ, ◌≤◌, ◌⊎◌, List, length, Some, Option}
 use Rattle.std.specs.List.{slice_get}
 use Rattle.weights.specs.Weights.{Ops}

@@ -1,12 +1,12 @@
--- What the listing of a diagram puts on a sheet.
+-- What the listing of a diagram puts on a sheet. It serves proofs alone: what the engine promises is in Views, Listed and what they cite.
 use Rattle.std.specs.Prelude.{◌≡◌, ℕ, ◌+◌, ◌≤◌, List, length, take}
 use Rattle.format.specs.declared.settings.Amount.{Amount}
 use Rattle.meaning.specs.Leaves.{Cell}
 use Rattle.meaning.specs.Diagrams.{Diagram as MDiagram}
 use Rattle.records.specs.declared.kinds.Diagram.{Diagram}
 use Rattle.counts.specs.declared.counts.Counts.{Counts}
-use Rattle.diagrams.specs.declared.memory.Stores.{Stores}
-use Rattle.diagrams.specs.Tests.{contents}
+use Rattle.engine.specs.declared.memory.Stores.{Stores}
+use Rattle.engine.specs.Contents.{contents}
 use Rattle.engine.specs.declared.sheet.Sheet.{Sheet}
 use Rattle.engine.specs.declared.way.Way.{Way}
 use Rattle.engine.specs.State.{state, Present, diagram_of}

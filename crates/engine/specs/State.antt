@@ -9,8 +9,8 @@ use Rattle.records.specs.declared.kinds.Diagram.{Diagram}
 use Rattle.records.specs.declared.kinds.Diagram.TheVariants.{Leaf, Branch}
 use Rattle.stores.specs.Numbers.{Distinct, held}
 use Rattle.counts.specs.declared.counts.Counts.{Counts}
-use Rattle.diagrams.specs.declared.memory.Stores.{Stores}
-use Rattle.diagrams.specs.Tests.{Contents}
+use Rattle.engine.specs.declared.memory.Stores.{Stores}
+use Rattle.engine.specs.Contents.{Contents}
 pub use Rattle.stored.specs.Stored.{Stored as State, Has, Grown}
 use Rattle.engine.specs.Built.{build, numbered_or}
 
@@ -55,24 +55,24 @@ pub record Names (s : State) (w : Diagram) (d : MDiagram) : Type 0 where
   pub stands : diagram_of s w ≡ d
 
 -- the records of a list behind the first ones, each with what it asks of those before
-abbrev pub Each_in : {R : Type 0} → (ℕ → R → Type 0) → ℕ → List R → Type 0
-Each_in P n [] = Unit {0}
-Each_in P n (r ∷ rs) = P n r × Each_in P (n + 1) rs
+abbrev pub EachFrom : {R : Type 0} → (ℕ → R → Type 0) → ℕ → List R → Type 0
+EachFrom P n [] = Unit {0}
+EachFrom P n (r ∷ rs) = P n r × EachFrom P (n + 1) rs
 
-abbrev pub CellGood : ℕ → ℕ → Cell → Type 0
-CellGood actions before c = (0 < c.action.number) × (c.action.number ≤ actions) × (c.rest.number ≤ before)
+abbrev pub CellNamesEarlier : ℕ → ℕ → Cell → Type 0
+CellNamesEarlier actions before c = (0 < c.action.number) × (c.action.number ≤ actions) × (c.rest.number ≤ before)
 
-abbrev pub SideGood : ℕ → ℕ → Diagram → Type 0
-SideGood leaves before (Leaf n) = n.number ≤ leaves
-SideGood leaves before (Branch n) = (0 < n.number) × (n.number ≤ before)
+abbrev pub WordNamesEarlier : ℕ → ℕ → Diagram → Type 0
+WordNamesEarlier leaves before (Leaf n) = n.number ≤ leaves
+WordNamesEarlier leaves before (Branch n) = (0 < n.number) × (n.number ≤ before)
 
-abbrev pub NodeGood : ℕ → ℕ → Node → Type 0
-NodeGood leaves before x = SideGood leaves before x.yes × SideGood leaves before x.no
+abbrev pub NodeNamesEarlier : ℕ → ℕ → Node → Type 0
+NodeNamesEarlier leaves before x = WordNamesEarlier leaves before x.yes × WordNamesEarlier leaves before x.no
 
 -- records name only records before them, and no two stand for the same
 pub record Sound (c : Contents) : Type 0 where
-  pub cells_good : Each_in (CellGood (length c.actions)) 0 c.cells
-  pub nodes_good : Each_in (NodeGood (length c.cells)) 0 c.nodes
+  pub cells_name_earlier : EachFrom (CellNamesEarlier (length c.actions)) 0 c.cells
+  pub nodes_name_earlier : EachFrom (NodeNamesEarlier (length c.cells)) 0 c.nodes
   pub actions_distinct : Distinct (state c).actions
   pub leaves_distinct : Distinct (state c).leaves
   pub nodes_distinct : Distinct (state c).nodes

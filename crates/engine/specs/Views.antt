@@ -3,13 +3,13 @@ use Rattle.std.specs.Prelude.{List, [], Option}
 use Rattle.weights.specs.Weights.{Ops}
 use Rattle.stores.specs.Numbers.{room}
 use Rattle.counts.specs.declared.counts.Counts.{Counts}
-use Rattle.diagrams.specs.declared.memory.Stores.{Stores}
-use Rattle.diagrams.specs.Tests.{contents}
+use Rattle.engine.specs.declared.memory.Stores.{Stores}
+use Rattle.engine.specs.Contents.{contents}
 use Rattle.stored.specs.Stored.{Stored, Rooms, Holdings}
 use Rattle.stored.specs.Whole.{AllFormed}
 use Rattle.engine.specs.declared.memo.PackedEntry.{PackedEntry}
 use Rattle.engine.specs.State.{state}
-use Rattle.engine.specs.Done.{Good}
+use Rattle.engine.specs.Done.{SoundStores}
 use Rattle.engine.specs.Memo.{Remembers}
 
 abbrev pub nothing : Stored
@@ -28,6 +28,6 @@ holdings s c = record { stored = state (contents c s); rooms = rooms_in s }
 
 -- sound stores of well-formed diagrams' records, and a memo that is right of them
 pub record SoundEngine (o : Ops) (s : Stores) (c : Counts) (l : List (Option PackedEntry)) : Type 0 where
-  pub good : Good c s
+  pub good : SoundStores c s
   pub formed : AllFormed o (state (contents c s))
   pub remembers : Remembers o (state (contents c s)) l

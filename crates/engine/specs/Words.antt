@@ -1,12 +1,12 @@
--- The construction of a policy's word, from the diagrams of its operands.
+-- The construction of a policy's word, from the diagrams of its operands. It serves proofs alone: what the engine promises is in Views, Listed and what they cite.
 use Rattle.std.specs.Prelude.{◌≡◌, ℕ, zero, suc, List, [], ◌∷◌, drop, map, reverse}
 use Rattle.weights.specs.Weights.{Ops}
 use Rattle.format.specs.Words.{kind_of, field_of, value_of}
 use Rattle.format.specs.PolicyWords.{bits_of, LegalWord}
 use Rattle.format.specs.declared.settings.PolicyWord.{PolicyWord}
 use Rattle.records.specs.declared.kinds.Diagram.{Diagram as WordOfDiagram}
-use Rattle.engine.specs.declared.waiting.Waiting.{Waiting}
-use Rattle.engine.specs.Steps.{Then}
+use Rattle.engine.specs.declared.operand_stack.OperandStack.{OperandStack}
+use Rattle.engine.specs.InTurn.{Then}
 use Rattle.format.specs.Policy.Policy.{Drop, Pass, Test, Set, Cost}
 use Rattle.meaning.specs.Diagrams.{Diagram}
 use Rattle.requests.specs.Rules.{Compiled, Negates, Joins, Sequences, Stars}
@@ -78,5 +78,5 @@ abbrev pub IsWord : ℕ → Type 0
 IsWord bits = (w : PolicyWord) × LegalWord w × (bits_of w ≡ bits)
 
 -- the words of diagrams that wait, the last one first
-abbrev pub waiting_words : Waiting → List WordOfDiagram
+abbrev pub waiting_words : OperandStack → List WordOfDiagram
 waiting_words w = map (λ x. x.diagram) (reverse w.operands.items)

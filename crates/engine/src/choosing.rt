@@ -1,18 +1,18 @@
 // One diagram where a field holds a value, another elsewhere.
 ghost use Rattle.std.specs.Prelude.{◌≡◌, ◌<◌, ◌≤◌, MatchResult, OnOk};
 ghost use Rattle.meaning.specs.Constructions.{root, earlier};
-ghost use Rattle.diagrams.specs.Tests.{contents};
+ghost use Rattle.engine.specs.Contents.{contents};
 ghost use Rattle.requests.specs.Rules.{Chooses, least_test};
 ghost use Rattle.engine.specs.State.{state, Present, diagram_of};
-ghost use Rattle.engine.specs.Done.{Done, Good, Kept};
+ghost use Rattle.engine.specs.Done.{Done, SoundStores, NothingLost};
 ghost use Rattle.engine.specs.Memo.{Remembers};
 
-use super::joining::{earlier, off, root};
+use super::joining::at;
 use super::memo::{Entry, Memo, Operation};
-use super::noting::make;
-use super::uniting::at;
+use super::memory::Stores;
+use super::narrowing::make;
+use super::roots::{earlier, off, root};
 use counts::Counts;
-use diagrams::Stores;
 use faults::StoreFault;
 use format::Setting;
 use records::Diagram;
@@ -20,7 +20,7 @@ use weights::WeightKind;
 
 // The smaller of a test and the root test of a diagram.
 fn earlier_root(stores: &Stores<'_>, counts: &Counts, test: Setting, diagram: Diagram) -> Setting
-    requires good { Good counts.now stores.now }
+    requires good { SoundStores counts.now stores.now }
     requires present { Present (state (contents counts.now stores.now)) diagram }
     ensures { (result.field, result.value) ≡ earlier (test.field, test.value) (root (diagram_of (state (contents counts.now stores.now)) diagram)) }
 {
@@ -38,7 +38,7 @@ fn least_test(
     yes: Diagram,
     no: Diagram,
 ) -> Setting
-    requires good { Good counts.now stores.now }
+    requires good { SoundStores counts.now stores.now }
     requires yes { Present (state (contents counts.now stores.now)) yes }
     requires no { Present (state (contents counts.now stores.now)) no }
     ensures { let s = state (contents counts.now stores.now) in (result.field, result.value) ≡ least_test test.field test.value (diagram_of s yes) (diagram_of s no) }
@@ -57,12 +57,12 @@ pub fn choose<K: WeightKind>(
     yes: Diagram,
     no: Diagram,
 ) -> Result<Diagram, StoreFault>
-    requires good { Good counts.old stores.old }
+    requires good { SoundStores counts.old stores.old }
     requires yes { Present (state (contents counts.old stores.old)) yes }
     requires no { Present (state (contents counts.old stores.old)) no }
     requires memo { Remembers K.WeightKind.ops (state (contents counts.old stores.old)) memo.old.entries }
     ensures done { let s = state (contents counts.old stores.old) in Done (Chooses K.WeightKind.ops test.field test.value (diagram_of s yes) (diagram_of s no)) counts.old stores.old counts.new stores.new result }
-    ensures kept { Kept counts.old stores.old counts.new stores.new }
+    ensures kept { NothingLost counts.old stores.old counts.new stores.new }
     ensures memo { OnOk result (Remembers K.WeightKind.ops (state (contents counts.new stores.new)) memo.new.entries) }
 {
     let operation = Operation::Choose(test);
@@ -89,12 +89,12 @@ fn choose_node<K: WeightKind>(
     yes: Diagram,
     no: Diagram,
 ) -> Result<Diagram, StoreFault>
-    requires good { Good counts.old stores.old }
+    requires good { SoundStores counts.old stores.old }
     requires yes { Present (state (contents counts.old stores.old)) yes }
     requires no { Present (state (contents counts.old stores.old)) no }
     requires memo { Remembers K.WeightKind.ops (state (contents counts.old stores.old)) memo.old.entries }
     ensures done { let s = state (contents counts.old stores.old) in Done (Chooses K.WeightKind.ops test.field test.value (diagram_of s yes) (diagram_of s no)) counts.old stores.old counts.new stores.new result }
-    ensures kept { Kept counts.old stores.old counts.new stores.new }
+    ensures kept { NothingLost counts.old stores.old counts.new stores.new }
     ensures memo { OnOk result (Remembers K.WeightKind.ops (state (contents counts.new stores.new)) memo.new.entries) }
 {
     let least = least_test(stores, counts, test, yes, no);

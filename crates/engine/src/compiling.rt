@@ -5,9 +5,9 @@ ghost use Rattle.checking.specs.Waiting.{operands};
 ghost use Rattle.checking.specs.Checked.{policy_words};
 ghost use Rattle.meaning.specs.Leaves.{Each};
 ghost use Rattle.meaning.specs.Diagrams.{Formed};
-ghost use Rattle.diagrams.specs.Tests.{contents};
+ghost use Rattle.engine.specs.Contents.{contents};
 ghost use Rattle.engine.specs.State.{state, Present, diagram_of};
-ghost use Rattle.engine.specs.Done.{Done, Good, Kept};
+ghost use Rattle.engine.specs.Done.{Done, SoundStores, NothingLost};
 ghost use Rattle.engine.specs.Memo.{Remembers};
 ghost use Rattle.engine.specs.Cells.{LeavesFormed};
 ghost use Rattle.weights.specs.Weights.{Weight};
@@ -18,17 +18,17 @@ ghost use Rattle.requests.specs.Rules.{Compiled};
 ghost use Rattle.engine.specs.Compiling.{CompiledFrom, Singles};
 
 use super::enter::enter_node;
+use super::joining::join;
 use super::leaves::one_cell;
 use super::memo::Memo;
+use super::memory::Stores;
 use super::negating::negate;
+use super::operand_stack::OperandStack;
 use super::sequencing::sequence;
 use super::starring::{pass, star};
-use super::uniting::join;
-use super::waiting::Waiting;
 use actions::Action;
 use checking::CheckedPolicy;
 use counts::Counts;
-use diagrams::Stores;
 use faults::StoreFault;
 use format::{Amount, PolicyWord, Setting};
 use records::{Diagram, Node};
@@ -52,11 +52,11 @@ fn single<K: WeightKind>(
     action: &Action,
     weight: Amount,
 ) -> Result<Diagram, StoreFault>
-    requires good { Good counts.old stores.old }
+    requires good { SoundStores counts.old stores.old }
     requires leaves { LeavesFormed K.WeightKind.ops (state (contents counts.old stores.old)) }
     requires weight { Weight K.WeightKind.ops weight.number }
     ensures done { Done (Singles K.WeightKind.ops action.now.sets weight.number) counts.old stores.old counts.new stores.new result }
-    ensures kept { Kept counts.old stores.old counts.new stores.new }
+    ensures kept { NothingLost counts.old stores.old counts.new stores.new }
     ensures leaves { OnOk result (LeavesFormed K.WeightKind.ops (state (contents counts.new stores.new))) }
 {
     let leaf = one_cell::<K>(stores, counts, *action, weight.number)?;
@@ -69,10 +69,10 @@ fn test_word<K: WeightKind>(
     counts: &mut Counts,
     test: Setting,
 ) -> Result<Diagram, StoreFault>
-    requires good { Good counts.old stores.old }
+    requires good { SoundStores counts.old stores.old }
     requires leaves { LeavesFormed K.WeightKind.ops (state (contents counts.old stores.old)) }
     ensures done { Done (Compiled K.WeightKind.ops (Test test.field test.value)) counts.old stores.old counts.new stores.new result }
-    ensures kept { Kept counts.old stores.old counts.new stores.new }
+    ensures kept { NothingLost counts.old stores.old counts.new stores.new }
     ensures leaves { OnOk result (LeavesFormed K.WeightKind.ops (state (contents counts.new stores.new))) }
 {
     let yes = pass::<K>(stores, counts)?;
@@ -86,10 +86,10 @@ fn set_word<K: WeightKind>(
     counts: &mut Counts,
     to: Setting,
 ) -> Result<Diagram, StoreFault>
-    requires good { Good counts.old stores.old }
+    requires good { SoundStores counts.old stores.old }
     requires leaves { LeavesFormed K.WeightKind.ops (state (contents counts.old stores.old)) }
     ensures done { Done (Compiled K.WeightKind.ops (Set to.field to.value)) counts.old stores.old counts.new stores.new result }
-    ensures kept { Kept counts.old stores.old counts.new stores.new }
+    ensures kept { NothingLost counts.old stores.old counts.new stores.new }
     ensures leaves { OnOk result (LeavesFormed K.WeightKind.ops (state (contents counts.new stores.new))) }
 {
     let action = Action::setting(to);
@@ -103,11 +103,11 @@ fn cost_word<K: WeightKind>(
     counts: &mut Counts,
     cost: Amount,
 ) -> Result<Diagram, StoreFault>
-    requires good { Good counts.old stores.old }
+    requires good { SoundStores counts.old stores.old }
     requires leaves { LeavesFormed K.WeightKind.ops (state (contents counts.old stores.old)) }
     requires small { cost.number ≤ cost_limit }
     ensures done { Done (Compiled K.WeightKind.ops (Cost cost.number)) counts.old stores.old counts.new stores.new result }
-    ensures kept { Kept counts.old stores.old counts.new stores.new }
+    ensures kept { NothingLost counts.old stores.old counts.new stores.new }
     ensures leaves { OnOk result (LeavesFormed K.WeightKind.ops (state (contents counts.new stores.new))) }
 {
     let action = Action::keep_all();
@@ -123,12 +123,12 @@ fn operand_word<K: WeightKind>(
     counts: &mut Counts,
     word: PolicyWord,
 ) -> Result<Diagram, StoreFault>
-    requires good { Good counts.old stores.old }
+    requires good { SoundStores counts.old stores.old }
     requires leaves { LeavesFormed K.WeightKind.ops (state (contents counts.old stores.old)) }
     requires legal { LegalWord word }
     requires none { operands word ≡ 0 }
     ensures done { Done (by_word K.WeightKind.ops word []) counts.old stores.old counts.new stores.new result }
-    ensures kept { Kept counts.old stores.old counts.new stores.new }
+    ensures kept { NothingLost counts.old stores.old counts.new stores.new }
     ensures leaves { OnOk result (LeavesFormed K.WeightKind.ops (state (contents counts.new stores.new))) }
 {
     match word {
@@ -148,17 +148,17 @@ fn apply<K: WeightKind>(
     stores: &mut Stores<'_>,
     counts: &mut Counts,
     memo: &mut Memo,
-    waiting: &mut Waiting,
+    waiting: &mut OperandStack,
     word: PolicyWord,
 ) -> Result<Diagram, StoreFault>
-    requires good { Good counts.old stores.old }
+    requires good { SoundStores counts.old stores.old }
     requires legal { LegalWord word }
     requires enough { operands word ≤ length (waiting_words waiting.old) }
     requires present { Each (Present (state (contents counts.old stores.old))) (waiting_words waiting.old) }
     requires formed { Each (λ d. Formed K.WeightKind.ops (diagram_of (state (contents counts.old stores.old)) d)) (waiting_words waiting.old) }
     requires memo { Remembers K.WeightKind.ops (state (contents counts.old stores.old)) memo.old.entries }
     ensures done { Done (by_word K.WeightKind.ops word (map (diagram_of (state (contents counts.old stores.old))) (waiting_words waiting.old))) counts.old stores.old counts.new stores.new result }
-    ensures kept { Kept counts.old stores.old counts.new stores.new }
+    ensures kept { NothingLost counts.old stores.old counts.new stores.new }
     ensures memo { OnOk result (Remembers K.WeightKind.ops (state (contents counts.new stores.new)) memo.new.entries) }
     ensures left { waiting_words waiting.new ≡ drop (operands word) (waiting_words waiting.old) }
 {
@@ -196,14 +196,14 @@ pub fn compile<K: WeightKind>(
     memo: &mut Memo,
     policy: &CheckedPolicy,
 ) -> Result<Diagram, StoreFault>
-    requires good { Good counts.old stores.old }
+    requires good { SoundStores counts.old stores.old }
     requires memo { Remembers K.WeightKind.ops (state (contents counts.old stores.old)) memo.old.entries }
     ensures done { CompiledFrom K.WeightKind.ops (policy_words policy.now) counts.old stores.old counts.new stores.new result }
-    ensures kept { Kept counts.old stores.old counts.new stores.new }
+    ensures kept { NothingLost counts.old stores.old counts.new stores.new }
     ensures memo { OnOk result (Remembers K.WeightKind.ops (state (contents counts.new stores.new)) memo.new.entries) }
 {
     let words = policy.words();
-    let mut waiting = Waiting::none();
+    let mut waiting = OperandStack::none();
     'words: for bits in words {
         let word = word_of(*bits);
         let diagram = apply::<K>(stores, counts, memo, &mut waiting, word)?;

@@ -6,11 +6,11 @@ ghost use Rattle.engine.specs.Listed.{Tabulates};
 ghost use Rattle.engine.specs.Views.{nothing, rooms_of};
 
 use super::memo::Memo;
-use super::{compiling, putting, sequencing, starring, uniting};
+use super::memory::Stores;
+use super::{compiling, joining, putting, sequencing, starring};
 use actions::Action;
 use checking::CheckedPolicy;
 use counts::{Counts, Guard};
-use diagrams::Stores;
 use faults::{BenchFault, StoreFault};
 use format::VALUE_END;
 use records::{Cell, Node};
@@ -92,7 +92,7 @@ impl<K: WeightKind> Engine<'_, K> {
         let left = self.counts.operand(0, left)?;
         let right = self.counts.operand(1, right)?;
         let mut guard = Guard::over(&mut self.counts);
-        let answer = uniting::join::<K>(
+        let answer = joining::join::<K>(
             &mut self.stores,
             guard.counts,
             &mut self.memo,

@@ -1,15 +1,15 @@
 // Whether the rows of a diagram are no longer than so many words.
 ghost use Rattle.std.specs.Prelude.{◌≡◌, ◌<◌, ◌≤◌, ◌+◌, length, drop};
 ghost use Rattle.format.specs.Fields.{fields};
-ghost use Rattle.engine.specs.Done.{Good};
+ghost use Rattle.engine.specs.Done.{SoundStores};
 ghost use Rattle.engine.specs.Listing.{Fits, ShortWay, set_words, cells_words, leaf_words, rows_words};
 ghost use Rattle.engine.specs.Puts.{LeafInStore, cells_from, InStore, diagram_in, way_words};
 
 use super::enter::{action, cell, node};
+use super::memory::Stores;
 use super::way::Way;
 use actions::{Action, WIDTH};
 use counts::Counts;
-use diagrams::Stores;
 use format::Amount;
 use records::Diagram;
 
@@ -35,7 +35,7 @@ pub(crate) fn cells_fit(
     first: Amount,
     room: usize,
 ) -> Option<usize>
-    requires good { Good counts.now stores.now }
+    requires good { SoundStores counts.now stores.now }
     requires present { LeafInStore counts.now stores.now first }
     ensures { Fits room (cells_words (cells_from counts.now stores.now first)) result }
 {
@@ -61,7 +61,7 @@ pub(crate) fn leaf_fits(
     first: Amount,
     room: usize,
 ) -> Option<usize>
-    requires good { Good counts.now stores.now }
+    requires good { SoundStores counts.now stores.now }
     requires present { LeafInStore counts.now stores.now first }
     ensures { Fits room (leaf_words (way_words way.now) (cells_from counts.now stores.now first)) result }
 {
@@ -79,7 +79,7 @@ pub(crate) fn rows_fit(
     diagram: Diagram,
     room: usize,
 ) -> Option<usize>
-    requires good { Good counts.now stores.now }
+    requires good { SoundStores counts.now stores.now }
     requires present { InStore counts.now stores.now diagram }
     requires short { ShortWay (way_words way.now) (diagram_in counts.now stores.now diagram) }
     ensures { Fits room (rows_words (way_words way.now) (diagram_in counts.now stores.now diagram)) result }

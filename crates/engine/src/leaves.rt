@@ -3,16 +3,16 @@ ghost use Rattle.std.specs.Prelude.{◌≡◌, ◌<◌, ◌≤◌, ◌∷◌, Ma
 ghost use Rattle.weights.specs.Weights.{Weight};
 ghost use Rattle.meaning.specs.Leaves.{LeafFormed};
 ghost use Rattle.requests.specs.Rules.{one_cell};
-ghost use Rattle.diagrams.specs.Tests.{contents};
+ghost use Rattle.engine.specs.Contents.{contents};
 ghost use Rattle.engine.specs.State.{state};
-ghost use Rattle.engine.specs.Done.{Done, Good, Kept};
+ghost use Rattle.engine.specs.Done.{Done, SoundStores, NothingLost};
 ghost use Rattle.engine.specs.Leaves.{LeafPresent, leaf_at};
 ghost use Rattle.engine.specs.Cells.{LeafOf, PutOn, LeavesFormed, leaf_result};
 
 use super::enter::{enter_action, enter_cell};
+use super::memory::Stores;
 use actions::Action;
 use counts::Counts;
-use diagrams::Stores;
 use faults::StoreFault;
 use format::Amount;
 use records::Cell;
@@ -33,12 +33,12 @@ pub fn put_on<K: WeightKind>(
     weight: u32,
     rest: Amount,
 ) -> Result<Amount, StoreFault>
-    requires good { Good counts.old stores.old }
+    requires good { SoundStores counts.old stores.old }
     requires leaves { LeavesFormed K.WeightKind.ops (state (contents counts.old stores.old)) }
     requires rest { LeafPresent (state (contents counts.old stores.old)) rest.number }
     requires formed { LeafFormed K.WeightKind.ops ((action.sets, weight) ∷ leaf_at (state (contents counts.old stores.old)) rest.number) }
     ensures done { Done (PutOn action.sets weight (leaf_at (state (contents counts.old stores.old)) rest.number)) counts.old stores.old counts.new stores.new (leaf_result result) }
-    ensures kept { Kept counts.old stores.old counts.new stores.new }
+    ensures kept { NothingLost counts.old stores.old counts.new stores.new }
     ensures leaves { OnOk result (LeavesFormed K.WeightKind.ops (state (contents counts.new stores.new))) }
 {
     let action = enter_action(stores, counts, action)?;
@@ -58,11 +58,11 @@ pub fn one_cell<K: WeightKind>(
     action: Action,
     weight: u32,
 ) -> Result<Amount, StoreFault>
-    requires good { Good counts.old stores.old }
+    requires good { SoundStores counts.old stores.old }
     requires leaves { LeavesFormed K.WeightKind.ops (state (contents counts.old stores.old)) }
     requires weight { Weight K.WeightKind.ops weight }
     ensures done { Done (LeafOf (one_cell K.WeightKind.ops action.sets weight)) counts.old stores.old counts.new stores.new (leaf_result result) }
-    ensures kept { Kept counts.old stores.old counts.new stores.new }
+    ensures kept { NothingLost counts.old stores.old counts.new stores.new }
     ensures leaves { OnOk result (LeavesFormed K.WeightKind.ops (state (contents counts.new stores.new))) }
 {
     let none = Amount { number: 0 };

@@ -1,72 +1,118 @@
-// A leaf narrowed.
-ghost use Rattle.std.specs.Prelude.{◌≡◌, ◌<◌, ◌≤◌, Decides, MatchResult, OnOk};
-ghost use Rattle.diagrams.specs.Tests.{contents};
+// Narrow and make, with what was constructed before.
+ghost use Rattle.std.specs.Prelude.{◌≡◌, ◌<◌, ◌≤◌, MatchResult, OnOk};
+ghost use Rattle.engine.specs.Contents.{contents};
+ghost use Rattle.requests.specs.Rules.{Narrows, Makes};
 ghost use Rattle.engine.specs.State.{state, Present, diagram_of};
-ghost use Rattle.engine.specs.Done.{Done, Good, Kept};
-ghost use Rattle.engine.specs.Cells.{LeavesFormed};
-ghost use Rattle.engine.specs.Leaves.{LeafNarrows, LeafPresent, SetsTo, Stays, leaf_at};
+ghost use Rattle.engine.specs.Done.{Done, SoundStores, NothingLost};
+ghost use Rattle.engine.specs.Memo.{Remembers};
 
-use super::enter::{action, cell};
-use super::merging::{Strand, View, changes, merge};
+use super::enter::{enter_node, node};
+use super::leaf_narrowing::{narrow_leaf, stays};
+use super::memo::{Entry, Memo, Operation};
+use super::memory::Stores;
 use counts::Counts;
-use diagrams::Stores;
 use faults::StoreFault;
-use format::{Amount, Setting};
-use records::Diagram;
+use format::Setting;
+use records::{Diagram, Node};
 use weights::WeightKind;
 
-// Whether an action of a leaf changes where the test is known to pass.
-fn leaf_changes(stores: &Stores<'_>, counts: &Counts, first: Amount, test: Setting) -> bool
-    requires good { Good counts.now stores.now }
-    requires present { LeafPresent (state (contents counts.now stores.now)) first.number }
-    ensures { Decides result (SetsTo test.field test.value (leaf_at (state (contents counts.now stores.now)) first.number)) }
-{
-    let mut rest = first;
-    'cells: while rest.number > 0 {
-        let own = cell(stores, counts, rest);
-        let whole = action(stores, counts, own.action);
-        if changes(&whole, test) {
-            return true;
-        }
-        rest = own.rest;
-    }
-    false
-}
-
-// Whether a diagram is a leaf in which nothing changes there.
-pub(crate) fn stays(stores: &Stores<'_>, counts: &Counts, diagram: Diagram, test: Setting) -> bool
-    requires good { Good counts.now stores.now }
-    requires present { Present (state (contents counts.now stores.now)) diagram }
-    ensures { Decides result (Stays test.field test.value (diagram_of (state (contents counts.now stores.now)) diagram)) }
-{
-    match diagram {
-        Diagram::Leaf(first) => !leaf_changes(stores, counts, first, test),
-        Diagram::Branch(_) => false,
-    }
-}
-
-// A leaf where a field holds a value.
-pub fn narrow_leaf<K: WeightKind>(
+// A diagram where a field holds a value, remembered or made.
+#[cycle(narrowing)]
+pub fn narrow<K: WeightKind>(
     stores: &mut Stores<'_>,
     counts: &mut Counts,
-    first: Amount,
+    memo: &mut Memo,
+    diagram: Diagram,
     test: Setting,
 ) -> Result<Diagram, StoreFault>
-    requires good { Good counts.old stores.old }
-    requires present { LeafPresent (state (contents counts.old stores.old)) first.number }
-    requires leaves { LeavesFormed K.WeightKind.ops (state (contents counts.old stores.old)) }
-    ensures done { let s = state (contents counts.old stores.old) in Done (LeafNarrows K.WeightKind.ops (leaf_at s first.number) test.field test.value) counts.old stores.old counts.new stores.new result }
-    ensures kept { Kept counts.old stores.old counts.new stores.new }
-    ensures leaves { OnOk result (LeavesFormed K.WeightKind.ops (state (contents counts.new stores.new))) }
+    requires good { SoundStores counts.old stores.old }
+    requires present { Present (state (contents counts.old stores.old)) diagram }
+    requires memo { Remembers K.WeightKind.ops (state (contents counts.old stores.old)) memo.old.entries }
+    ensures done { Done (Narrows K.WeightKind.ops (diagram_of (state (contents counts.old stores.old)) diagram) test.field test.value) counts.old stores.old counts.new stores.new result }
+    ensures kept { NothingLost counts.old stores.old counts.new stores.new }
+    ensures memo { OnOk result (Remembers K.WeightKind.ops (state (contents counts.new stores.new)) memo.new.entries) }
 {
-    let kept = Strand {
-        view: View::Kept(test),
-        first,
+    // Then all that it asks for is in store.
+    if stays(stores, counts, diagram, test) {
+        return Ok(diagram);
+    }
+    let operation = Operation::Narrow(test);
+    if let Some(result) = memo.recall(operation, diagram, diagram) {
+        return Ok(result);
+    }
+    let result = narrow_node::<K>(stores, counts, memo, diagram, test)?;
+    memo.note(Entry {
+        operation,
+        left: diagram,
+        right: diagram,
+        result,
+    });
+    Ok(result)
+}
+
+// The same, made.
+#[cycle(narrowing)]
+fn narrow_node<K: WeightKind>(
+    stores: &mut Stores<'_>,
+    counts: &mut Counts,
+    memo: &mut Memo,
+    diagram: Diagram,
+    test: Setting,
+) -> Result<Diagram, StoreFault>
+    requires good { SoundStores counts.old stores.old }
+    requires present { Present (state (contents counts.old stores.old)) diagram }
+    requires memo { Remembers K.WeightKind.ops (state (contents counts.old stores.old)) memo.old.entries }
+    ensures done { Done (Narrows K.WeightKind.ops (diagram_of (state (contents counts.old stores.old)) diagram) test.field test.value) counts.old stores.old counts.new stores.new result }
+    ensures kept { NothingLost counts.old stores.old counts.new stores.new }
+    ensures memo { OnOk result (Remembers K.WeightKind.ops (state (contents counts.new stores.new)) memo.new.entries) }
+{
+    let number = match diagram {
+        Diagram::Leaf(first) => return narrow_leaf::<K>(stores, counts, first, test),
+        Diagram::Branch(number) => number,
     };
-    let changed = Strand {
-        view: View::Changed(test),
-        first,
+    let root = node(stores, counts, number);
+    if root.test.field != test.field {
+        let yes = narrow::<K>(stores, counts, memo, root.yes, test)?;
+        let no = narrow::<K>(stores, counts, memo, root.no, test)?;
+        // A node in store, made again, asks for nothing new.
+        if yes == root.yes && no == root.no {
+            return Ok(diagram);
+        }
+        return make::<K>(stores, counts, memo, root.test, yes, no);
+    }
+    if root.test.value == test.value {
+        return Ok(root.yes);
+    }
+    narrow::<K>(stores, counts, memo, root.no, test)
+}
+
+// The yes side where a field holds a value, else the no side.
+#[cycle(narrowing)]
+pub fn make<K: WeightKind>(
+    stores: &mut Stores<'_>,
+    counts: &mut Counts,
+    memo: &mut Memo,
+    test: Setting,
+    yes: Diagram,
+    no: Diagram,
+) -> Result<Diagram, StoreFault>
+    requires good { SoundStores counts.old stores.old }
+    requires yes { Present (state (contents counts.old stores.old)) yes }
+    requires no { Present (state (contents counts.old stores.old)) no }
+    requires memo { Remembers K.WeightKind.ops (state (contents counts.old stores.old)) memo.old.entries }
+    ensures done { let s = state (contents counts.old stores.old) in Done (Makes K.WeightKind.ops test.field test.value (diagram_of s yes) (diagram_of s no)) counts.old stores.old counts.new stores.new result }
+    ensures kept { NothingLost counts.old stores.old counts.new stores.new }
+    ensures memo { OnOk result (Remembers K.WeightKind.ops (state (contents counts.new stores.new)) memo.new.entries) }
+{
+    let narrowed_yes = narrow::<K>(stores, counts, memo, yes, test)?;
+    let narrowed_no = narrow::<K>(stores, counts, memo, no, test)?;
+    if narrowed_yes == narrowed_no {
+        return Ok(no);
+    }
+    let entry = Node {
+        test,
+        yes: narrowed_yes,
+        no,
     };
-    let leaf = merge::<K>(stores, counts, kept, changed)?;
-    Ok(Diagram::Leaf(leaf))
+    enter_node(stores, counts, entry)
 }

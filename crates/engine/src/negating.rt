@@ -1,21 +1,21 @@
 // Drop and pass exchanged.
 ghost use Rattle.std.specs.Prelude.{◌≡◌, ◌<◌, ◌≤◌, MatchResult, OnOk, Decides};
 ghost use Rattle.meaning.specs.Diagrams.{Leaf as MLeaf};
-ghost use Rattle.diagrams.specs.Tests.{contents};
+ghost use Rattle.engine.specs.Contents.{contents};
 ghost use Rattle.requests.specs.Rules.{Negates, pass_cells};
 ghost use Rattle.engine.specs.State.{state, Present, diagram_of};
 ghost use Rattle.engine.specs.Memo.{Remembers};
-ghost use Rattle.engine.specs.Done.{Done, Good, Kept};
+ghost use Rattle.engine.specs.Done.{Done, SoundStores, NothingLost};
 ghost use Rattle.engine.specs.Leaves.{LeafPresent, leaf_at};
 ghost use Rattle.engine.specs.Cells.{LeavesFormed, leaf_result};
 
 use super::enter::{action, cell, node};
 use super::leaves::{no_cell, one_cell};
 use super::memo::{Entry, Memo, Operation};
-use super::noting::make;
+use super::memory::Stores;
+use super::narrowing::make;
 use actions::Action;
 use counts::Counts;
-use diagrams::Stores;
 use faults::StoreFault;
 use format::Amount;
 use records::{Diagram, Record};
@@ -23,7 +23,7 @@ use weights::WeightKind;
 
 // Whether a leaf with a cell is the leaf pass.
 fn is_pass<K: WeightKind>(stores: &Stores<'_>, counts: &Counts, first: Amount) -> bool
-    requires good { Good counts.now stores.now }
+    requires good { SoundStores counts.now stores.now }
     requires present { LeafPresent (state (contents counts.now stores.now)) first.number }
     requires full { 0 < first.number }
     ensures { Decides result (leaf_at (state (contents counts.now stores.now)) first.number ≡ pass_cells K.WeightKind.ops) }
@@ -45,11 +45,11 @@ pub fn negate_leaf<K: WeightKind>(
     counts: &mut Counts,
     first: Amount,
 ) -> Result<Amount, StoreFault>
-    requires good { Good counts.old stores.old }
+    requires good { SoundStores counts.old stores.old }
     requires leaves { LeavesFormed K.WeightKind.ops (state (contents counts.old stores.old)) }
     requires present { LeafPresent (state (contents counts.old stores.old)) first.number }
     ensures done { Done (Negates K.WeightKind.ops (MLeaf (leaf_at (state (contents counts.old stores.old)) first.number))) counts.old stores.old counts.new stores.new (leaf_result result) }
-    ensures kept { Kept counts.old stores.old counts.new stores.new }
+    ensures kept { NothingLost counts.old stores.old counts.new stores.new }
     ensures leaves { OnOk result (LeavesFormed K.WeightKind.ops (state (contents counts.new stores.new))) }
 {
     if first.number == 0 {
@@ -67,11 +67,11 @@ fn negated_leaf<K: WeightKind>(
     counts: &mut Counts,
     first: Amount,
 ) -> Result<Diagram, StoreFault>
-    requires good { Good counts.old stores.old }
+    requires good { SoundStores counts.old stores.old }
     requires leaves { LeavesFormed K.WeightKind.ops (state (contents counts.old stores.old)) }
     requires present { LeafPresent (state (contents counts.old stores.old)) first.number }
     ensures done { Done (Negates K.WeightKind.ops (MLeaf (leaf_at (state (contents counts.old stores.old)) first.number))) counts.old stores.old counts.new stores.new result }
-    ensures kept { Kept counts.old stores.old counts.new stores.new }
+    ensures kept { NothingLost counts.old stores.old counts.new stores.new }
     ensures leaves { OnOk result (LeavesFormed K.WeightKind.ops (state (contents counts.new stores.new))) }
 {
     let leaf = negate_leaf::<K>(stores, counts, first)?;
@@ -86,11 +86,11 @@ pub fn negate<K: WeightKind>(
     memo: &mut Memo,
     diagram: Diagram,
 ) -> Result<Diagram, StoreFault>
-    requires good { Good counts.old stores.old }
+    requires good { SoundStores counts.old stores.old }
     requires present { Present (state (contents counts.old stores.old)) diagram }
     requires memo { Remembers K.WeightKind.ops (state (contents counts.old stores.old)) memo.old.entries }
     ensures done { Done (Negates K.WeightKind.ops (diagram_of (state (contents counts.old stores.old)) diagram)) counts.old stores.old counts.new stores.new result }
-    ensures kept { Kept counts.old stores.old counts.new stores.new }
+    ensures kept { NothingLost counts.old stores.old counts.new stores.new }
     ensures memo { OnOk result (Remembers K.WeightKind.ops (state (contents counts.new stores.new)) memo.new.entries) }
 {
     let operation = Operation::Not;
@@ -115,11 +115,11 @@ fn negate_node<K: WeightKind>(
     memo: &mut Memo,
     diagram: Diagram,
 ) -> Result<Diagram, StoreFault>
-    requires good { Good counts.old stores.old }
+    requires good { SoundStores counts.old stores.old }
     requires present { Present (state (contents counts.old stores.old)) diagram }
     requires memo { Remembers K.WeightKind.ops (state (contents counts.old stores.old)) memo.old.entries }
     ensures done { Done (Negates K.WeightKind.ops (diagram_of (state (contents counts.old stores.old)) diagram)) counts.old stores.old counts.new stores.new result }
-    ensures kept { Kept counts.old stores.old counts.new stores.new }
+    ensures kept { NothingLost counts.old stores.old counts.new stores.new }
     ensures memo { OnOk result (Remembers K.WeightKind.ops (state (contents counts.new stores.new)) memo.new.entries) }
 {
     let number = match diagram {

@@ -3,11 +3,11 @@ ghost use Rattle.std.specs.Prelude.{◌≡◌, ◌<◌, ◌≤◌, length, Decid
 ghost use Rattle.weights.specs.Weights.{Weight};
 ghost use Rattle.meaning.specs.Leaves.{LeafFormed};
 ghost use Rattle.format.specs.Actions.{compose, keep_all};
-ghost use Rattle.diagrams.specs.Tests.{contents};
+ghost use Rattle.engine.specs.Contents.{contents};
 ghost use Rattle.requests.specs.Rules.{Prefixes, prefix_leaf};
 ghost use Rattle.engine.specs.State.{state, Present, diagram_of};
 ghost use Rattle.engine.specs.Memo.{Remembers};
-ghost use Rattle.engine.specs.Done.{Done, Good, Kept};
+ghost use Rattle.engine.specs.Done.{Done, SoundStores, NothingLost};
 ghost use Rattle.engine.specs.Leaves.{LeafPresent, leaf_at, LeafPrefixes};
 ghost use Rattle.engine.specs.Cells.{action_at, LeafOf, LeavesFormed, leaf_result};
 ghost use Rattle.engine.specs.Merging.{sets_of};
@@ -16,10 +16,10 @@ ghost use Rattle.engine.specs.Greatest.{under, last, greater, better, entered, f
 use super::enter::{action, cell, node};
 use super::leaves::{no_cell, put_on};
 use super::memo::{Entry, Memo, Operation};
-use super::noting::make;
+use super::memory::Stores;
+use super::narrowing::make;
 use actions::Action;
 use counts::Counts;
-use diagrams::Stores;
 use faults::StoreFault;
 use format::Amount;
 use records::{Diagram, Record};
@@ -27,13 +27,16 @@ use std::cmp::Ordering;
 use weights::WeightKind;
 
 #[derive(Clone, Copy)]
-pub struct Found {
+pub struct WeightedAction {
     pub action: Action,
     pub weight: u32,
 }
 
 // The greater of two, both as one if they are equal.
-fn greater<K: WeightKind>(here: Found, later: Option<Found>) -> Option<Found>
+fn greater<K: WeightKind>(
+    here: WeightedAction,
+    later: Option<WeightedAction>,
+) -> Option<WeightedAction>
     ensures { found_cell result ≡ greater K.WeightKind.ops (here.action.sets, here.weight) (found_cell later) }
 {
     let Some(there) = later else {
@@ -41,7 +44,7 @@ fn greater<K: WeightKind>(here: Found, later: Option<Found>) -> Option<Found>
     };
     match here.action.compare(&there.action) {
         Ordering::Less => Some(there),
-        Ordering::Equal => Some(Found {
+        Ordering::Equal => Some(WeightedAction {
             action: here.action,
             weight: K::join(here.weight, there.weight),
         }),
@@ -50,7 +53,11 @@ fn greater<K: WeightKind>(here: Found, later: Option<Found>) -> Option<Found>
 }
 
 // The greater of two, the first only if it is below the bound.
-fn better<K: WeightKind>(here: Found, later: Option<Found>, bound: Option<Action>) -> Option<Found>
+fn better<K: WeightKind>(
+    here: WeightedAction,
+    later: Option<WeightedAction>,
+    bound: Option<Action>,
+) -> Option<WeightedAction>
     ensures { found_cell result ≡ better K.WeightKind.ops (sets_of bound) (here.action.sets, here.weight) (found_cell later) }
 {
     let Some(end) = bound else {
@@ -65,12 +72,12 @@ fn better<K: WeightKind>(here: Found, later: Option<Found>, bound: Option<Action
 
 // What was found, with one more cell of a leaf behind an action and a weight.
 fn with_cell<K: WeightKind>(
-    prefix: Found,
+    prefix: WeightedAction,
     own: Action,
     weight: u32,
-    found: Option<Found>,
+    found: Option<WeightedAction>,
     bound: Option<Action>,
-) -> Option<Found>
+) -> Option<WeightedAction>
     ensures { found_cell result ≡ entered K.WeightKind.ops (sets_of bound) (compose prefix.action.sets own.sets, K.WeightKind.ops.times prefix.weight weight) (found_cell found) }
 {
     let weight = K::times(prefix.weight, weight);
@@ -78,7 +85,7 @@ fn with_cell<K: WeightKind>(
         return found;
     }
     let action = prefix.action.then(&own);
-    better::<K>(Found { action, weight }, found, bound)
+    better::<K>(WeightedAction { action, weight }, found, bound)
 }
 
 // The greatest cell below a bound, of a leaf behind an action and a weight.
@@ -86,10 +93,10 @@ fn greatest<K: WeightKind>(
     stores: &Stores<'_>,
     counts: &Counts,
     first: Amount,
-    prefix: Found,
+    prefix: WeightedAction,
     bound: Option<Action>,
-) -> Option<Found>
-    requires good { Good counts.now stores.now }
+) -> Option<WeightedAction>
+    requires good { SoundStores counts.now stores.now }
     requires present { LeafPresent (state (contents counts.now stores.now)) first.number }
     requires weight { Weight K.WeightKind.ops prefix.weight }
     requires formed { LeafFormed K.WeightKind.ops (leaf_at (state (contents counts.now stores.now)) first.number) }
@@ -111,14 +118,14 @@ pub fn prefix_leaf<K: WeightKind>(
     stores: &mut Stores<'_>,
     counts: &mut Counts,
     first: Amount,
-    prefix: Found,
+    prefix: WeightedAction,
 ) -> Result<Amount, StoreFault>
-    requires good { Good counts.old stores.old }
+    requires good { SoundStores counts.old stores.old }
     requires leaves { LeavesFormed K.WeightKind.ops (state (contents counts.old stores.old)) }
     requires present { LeafPresent (state (contents counts.old stores.old)) first.number }
     requires weight { Weight K.WeightKind.ops prefix.weight }
     ensures done { Done (LeafOf (prefix_leaf K.WeightKind.ops prefix.action.sets prefix.weight (leaf_at (state (contents counts.old stores.old)) first.number))) counts.old stores.old counts.new stores.new (leaf_result result) }
-    ensures kept { Kept counts.old stores.old counts.new stores.new }
+    ensures kept { NothingLost counts.old stores.old counts.new stores.new }
     ensures leaves { OnOk result (LeavesFormed K.WeightKind.ops (state (contents counts.new stores.new))) }
 {
     let mut made = no_cell();
@@ -138,15 +145,15 @@ fn prefixed_leaf<K: WeightKind>(
     weight: Amount,
     first: Amount,
 ) -> Result<Diagram, StoreFault>
-    requires good { Good counts.old stores.old }
+    requires good { SoundStores counts.old stores.old }
     requires weight { Weight K.WeightKind.ops weight.number }
     requires present { LeafPresent (state (contents counts.old stores.old)) first.number }
     requires leaves { LeavesFormed K.WeightKind.ops (state (contents counts.old stores.old)) }
     ensures done { Done (LeafPrefixes K.WeightKind.ops action.now.sets weight.number (leaf_at (state (contents counts.old stores.old)) first.number)) counts.old stores.old counts.new stores.new result }
-    ensures kept { Kept counts.old stores.old counts.new stores.new }
+    ensures kept { NothingLost counts.old stores.old counts.new stores.new }
     ensures leaves { OnOk result (LeavesFormed K.WeightKind.ops (state (contents counts.new stores.new))) }
 {
-    let prefix = Found {
+    let prefix = WeightedAction {
         action: *action,
         weight: weight.number,
     };
@@ -161,7 +168,7 @@ fn keeps_all<K: WeightKind>(
     number: Amount,
     weight: Amount,
 ) -> bool
-    requires good { Good counts.now stores.now }
+    requires good { SoundStores counts.now stores.now }
     requires action { (0 < number.number) × (number.number ≤ length (state (contents counts.now stores.now)).actions) }
     ensures { Decides result ((action_at (state (contents counts.now stores.now)) number.number ≡ keep_all) × (weight.number ≡ K.WeightKind.ops.one)) }
 {
@@ -181,13 +188,13 @@ pub fn prefix<K: WeightKind>(
     weight: Amount,
     diagram: Diagram,
 ) -> Result<Diagram, StoreFault>
-    requires good { Good counts.old stores.old }
+    requires good { SoundStores counts.old stores.old }
     requires action { (0 < action.number) × (action.number ≤ length (state (contents counts.old stores.old)).actions) }
     requires weight { Weight K.WeightKind.ops weight.number }
     requires present { Present (state (contents counts.old stores.old)) diagram }
     requires memo { Remembers K.WeightKind.ops (state (contents counts.old stores.old)) memo.old.entries }
     ensures done { let s = state (contents counts.old stores.old) in Done (Prefixes K.WeightKind.ops (action_at s action.number) weight.number (diagram_of s diagram)) counts.old stores.old counts.new stores.new result }
-    ensures kept { Kept counts.old stores.old counts.new stores.new }
+    ensures kept { NothingLost counts.old stores.old counts.new stores.new }
     ensures memo { OnOk result (Remembers K.WeightKind.ops (state (contents counts.new stores.new)) memo.new.entries) }
 {
     // Then all that it asks for is in store.
@@ -218,13 +225,13 @@ fn prefix_node<K: WeightKind>(
     weight: Amount,
     diagram: Diagram,
 ) -> Result<Diagram, StoreFault>
-    requires good { Good counts.old stores.old }
+    requires good { SoundStores counts.old stores.old }
     requires action { (0 < action.number) × (action.number ≤ length (state (contents counts.old stores.old)).actions) }
     requires weight { Weight K.WeightKind.ops weight.number }
     requires present { Present (state (contents counts.old stores.old)) diagram }
     requires memo { Remembers K.WeightKind.ops (state (contents counts.old stores.old)) memo.old.entries }
     ensures done { let s = state (contents counts.old stores.old) in Done (Prefixes K.WeightKind.ops (action_at s action.number) weight.number (diagram_of s diagram)) counts.old stores.old counts.new stores.new result }
-    ensures kept { Kept counts.old stores.old counts.new stores.new }
+    ensures kept { NothingLost counts.old stores.old counts.new stores.new }
     ensures memo { OnOk result (Remembers K.WeightKind.ops (state (contents counts.new stores.new)) memo.new.entries) }
 {
     let sets = super::enter::action(stores, counts, action);

@@ -3,18 +3,18 @@ ghost use Rattle.std.specs.Prelude.{◌≡◌, ◌<◌, ◌≤◌, ◌+◌, leng
 ghost use Rattle.format.specs.Fields.{fields};
 ghost use Rattle.format.specs.Words.{value_end};
 ghost use Rattle.meaning.specs.Diagrams.{Formed};
-ghost use Rattle.engine.specs.Done.{Good};
+ghost use Rattle.engine.specs.Done.{SoundStores};
 ghost use Rattle.engine.specs.Listed.{Listed};
 ghost use Rattle.engine.specs.Listing.{ShortWay, set_words, cells_words, leaf_words, rows_words, leaf_count};
 ghost use Rattle.engine.specs.Puts.{Puts, RoomFor, LeafInStore, cells_from, InStore, diagram_in, way_words};
 
 use super::enter::{action, cell, node};
 use super::fitting::rows_fit;
+use super::memory::Stores;
 use super::sheet::Sheet;
 use super::way::Way;
 use actions::{Action, WIDTH};
 use counts::Counts;
-use diagrams::Stores;
 use faults::TableFault;
 use format::Amount;
 use records::Diagram;
@@ -56,7 +56,7 @@ pub(crate) fn put_sets(sheet: &mut Sheet<'_>, kept: &Action, from: usize)
 
 // Writes the words of a leaf's cells.
 pub(crate) fn put_cells(stores: &Stores<'_>, counts: &Counts, sheet: &mut Sheet<'_>, first: Amount)
-    requires good { Good counts.now stores.now }
+    requires good { SoundStores counts.now stores.now }
     requires present { LeafInStore counts.now stores.now first }
     requires room { RoomFor sheet.old (cells_words (cells_from counts.now stores.now first)) }
     ensures { Puts sheet.old (cells_words (cells_from counts.now stores.now first)) 0 sheet.new }
@@ -78,7 +78,7 @@ pub(crate) fn put_cells(stores: &Stores<'_>, counts: &Counts, sheet: &mut Sheet<
 
 // How many cells a leaf has.
 pub(crate) fn count_cells(stores: &Stores<'_>, counts: &Counts, first: Amount) -> u32
-    requires good { Good counts.now stores.now }
+    requires good { SoundStores counts.now stores.now }
     requires present { LeafInStore counts.now stores.now first }
     requires few { length (cells_from counts.now stores.now first) < value_end }
     ensures { result ≡ length (cells_from counts.now stores.now first) }
@@ -98,7 +98,7 @@ pub(crate) fn put_leaf(
     way: &Way,
     first: Amount,
 )
-    requires good { Good counts.now stores.now }
+    requires good { SoundStores counts.now stores.now }
     requires present { LeafInStore counts.now stores.now first }
     requires countable { length sheet.old.words.now ≤ value_end }
     requires room { RoomFor sheet.old (leaf_words (way_words way.now) (cells_from counts.now stores.now first)) }
@@ -123,7 +123,7 @@ pub(crate) fn put_rows(
     way: &Way,
     diagram: Diagram,
 )
-    requires good { Good counts.now stores.now }
+    requires good { SoundStores counts.now stores.now }
     requires present { InStore counts.now stores.now diagram }
     requires short { ShortWay (way_words way.now) (diagram_in counts.now stores.now diagram) }
     requires countable { length sheet.old.words.now ≤ value_end }
@@ -147,7 +147,7 @@ pub(crate) fn list<K: WeightKind>(
     diagram: Diagram,
     out: &mut [u32],
 ) -> Result<usize, TableFault>
-    requires good { Good counts.now stores.now }
+    requires good { SoundStores counts.now stores.now }
     requires present { InStore counts.now stores.now diagram }
     requires formed { Formed K.WeightKind.ops (diagram_in counts.now stores.now diagram) }
     requires countable { length out.old ≤ value_end }

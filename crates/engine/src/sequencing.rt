@@ -1,20 +1,20 @@
 // One diagram and then another.
 ghost use Rattle.std.specs.Prelude.{◌≡◌, ◌<◌, ◌≤◌, MatchResult, OnOk, []};
 ghost use Rattle.meaning.specs.Diagrams.{Leaf as MLeaf};
-ghost use Rattle.diagrams.specs.Tests.{contents};
+ghost use Rattle.engine.specs.Contents.{contents};
 ghost use Rattle.requests.specs.Rules.{Follows, Sequences};
 ghost use Rattle.engine.specs.State.{state, Present, diagram_of};
-ghost use Rattle.engine.specs.Done.{Done, Good, Kept};
+ghost use Rattle.engine.specs.Done.{Done, SoundStores, NothingLost};
 ghost use Rattle.engine.specs.Memo.{Remembers};
 ghost use Rattle.engine.specs.Leaves.{LeafPresent, leaf_at};
 
 use super::choosing::choose;
 use super::enter::{cell, node};
+use super::joining::join;
 use super::memo::{Entry, Memo, Operation};
+use super::memory::Stores;
 use super::prefixing::prefix;
-use super::uniting::join;
 use counts::Counts;
-use diagrams::Stores;
 use faults::StoreFault;
 use format::Amount;
 use records::Diagram;
@@ -28,12 +28,12 @@ fn follow<K: WeightKind>(
     first: Amount,
     second: Diagram,
 ) -> Result<Diagram, StoreFault>
-    requires good { Good counts.old stores.old }
+    requires good { SoundStores counts.old stores.old }
     requires first { LeafPresent (state (contents counts.old stores.old)) first.number }
     requires second { Present (state (contents counts.old stores.old)) second }
     requires memo { Remembers K.WeightKind.ops (state (contents counts.old stores.old)) memo.old.entries }
     ensures done { let s = state (contents counts.old stores.old) in Done (Follows K.WeightKind.ops (diagram_of s second) (MLeaf []) (leaf_at s first.number)) counts.old stores.old counts.new stores.new result }
-    ensures kept { Kept counts.old stores.old counts.new stores.new }
+    ensures kept { NothingLost counts.old stores.old counts.new stores.new }
     ensures memo { OnOk result (Remembers K.WeightKind.ops (state (contents counts.new stores.new)) memo.new.entries) }
 {
     let mut sofar = Diagram::Leaf(Amount { number: 0 });
@@ -56,12 +56,12 @@ pub fn sequence<K: WeightKind>(
     first: Diagram,
     second: Diagram,
 ) -> Result<Diagram, StoreFault>
-    requires good { Good counts.old stores.old }
+    requires good { SoundStores counts.old stores.old }
     requires first { Present (state (contents counts.old stores.old)) first }
     requires second { Present (state (contents counts.old stores.old)) second }
     requires memo { Remembers K.WeightKind.ops (state (contents counts.old stores.old)) memo.old.entries }
     ensures done { let s = state (contents counts.old stores.old) in Done (Sequences K.WeightKind.ops (diagram_of s second) (diagram_of s first)) counts.old stores.old counts.new stores.new result }
-    ensures kept { Kept counts.old stores.old counts.new stores.new }
+    ensures kept { NothingLost counts.old stores.old counts.new stores.new }
     ensures memo { OnOk result (Remembers K.WeightKind.ops (state (contents counts.new stores.new)) memo.new.entries) }
 {
     let operation = Operation::Sequence;
@@ -87,12 +87,12 @@ fn sequence_node<K: WeightKind>(
     first: Diagram,
     second: Diagram,
 ) -> Result<Diagram, StoreFault>
-    requires good { Good counts.old stores.old }
+    requires good { SoundStores counts.old stores.old }
     requires first { Present (state (contents counts.old stores.old)) first }
     requires second { Present (state (contents counts.old stores.old)) second }
     requires memo { Remembers K.WeightKind.ops (state (contents counts.old stores.old)) memo.old.entries }
     ensures done { let s = state (contents counts.old stores.old) in Done (Sequences K.WeightKind.ops (diagram_of s second) (diagram_of s first)) counts.old stores.old counts.new stores.new result }
-    ensures kept { Kept counts.old stores.old counts.new stores.new }
+    ensures kept { NothingLost counts.old stores.old counts.new stores.new }
     ensures memo { OnOk result (Remembers K.WeightKind.ops (state (contents counts.new stores.new)) memo.new.entries) }
 {
     let number = match first {

@@ -1,21 +1,21 @@
 // Star: rounds until the next equals the last.
 ghost use Rattle.std.specs.Prelude.{◌≡◌, ◌<◌, ◌≤◌, MatchResult, OnOk};
 ghost use Rattle.meaning.specs.Diagrams.{Formed, Leaf as MLeaf};
-ghost use Rattle.diagrams.specs.Tests.{contents};
+ghost use Rattle.engine.specs.Contents.{contents};
 ghost use Rattle.requests.specs.Rules.{Stars, pass_cells};
 ghost use Rattle.engine.specs.State.{state, Present, Names, diagram_of};
-ghost use Rattle.engine.specs.Done.{Done, Good, Kept};
+ghost use Rattle.engine.specs.Done.{Done, SoundStores, NothingLost};
 ghost use Rattle.engine.specs.Memo.{Remembers};
 ghost use Rattle.engine.specs.Cells.{LeavesFormed};
 ghost use Rattle.engine.specs.Rounds.{NextRound, Passes};
 
+use super::joining::join;
 use super::leaves::one_cell;
 use super::memo::Memo;
+use super::memory::Stores;
 use super::sequencing::sequence;
-use super::uniting::join;
 use actions::Action;
 use counts::Counts;
-use diagrams::Stores;
 use faults::StoreFault;
 use records::Diagram;
 use weights::WeightKind;
@@ -25,10 +25,10 @@ pub(crate) fn pass<K: WeightKind>(
     stores: &mut Stores<'_>,
     counts: &mut Counts,
 ) -> Result<Diagram, StoreFault>
-    requires good { Good counts.old stores.old }
+    requires good { SoundStores counts.old stores.old }
     requires leaves { LeavesFormed K.WeightKind.ops (state (contents counts.old stores.old)) }
     ensures done { Done (Passes K.WeightKind.ops) counts.old stores.old counts.new stores.new result }
-    ensures kept { Kept counts.old stores.old counts.new stores.new }
+    ensures kept { NothingLost counts.old stores.old counts.new stores.new }
     ensures leaves { OnOk result (LeavesFormed K.WeightKind.ops (state (contents counts.new stores.new))) }
 {
     let leaf = one_cell::<K>(stores, counts, Action::keep_all(), K::one())?;
@@ -44,13 +44,13 @@ fn next_round<K: WeightKind>(
     body: Diagram,
     last: Diagram,
 ) -> Result<Diagram, StoreFault>
-    requires good { Good counts.old stores.old }
+    requires good { SoundStores counts.old stores.old }
     requires body { Present (state (contents counts.old stores.old)) body }
     requires last { Present (state (contents counts.old stores.old)) last }
     requires pass { Names (state (contents counts.old stores.old)) pass (MLeaf (pass_cells K.WeightKind.ops)) }
     requires memo { Remembers K.WeightKind.ops (state (contents counts.old stores.old)) memo.old.entries }
     ensures done { let s = state (contents counts.old stores.old) in Done (NextRound K.WeightKind.ops (diagram_of s body) (diagram_of s last)) counts.old stores.old counts.new stores.new result }
-    ensures kept { Kept counts.old stores.old counts.new stores.new }
+    ensures kept { NothingLost counts.old stores.old counts.new stores.new }
     ensures memo { OnOk result (Remembers K.WeightKind.ops (state (contents counts.new stores.new)) memo.new.entries) }
 {
     let after = sequence::<K>(stores, counts, memo, body, last)?;
@@ -64,12 +64,12 @@ pub fn star<K: WeightKind>(
     memo: &mut Memo,
     body: Diagram,
 ) -> Result<Diagram, StoreFault>
-    requires good { Good counts.old stores.old }
+    requires good { SoundStores counts.old stores.old }
     requires body { Present (state (contents counts.old stores.old)) body }
     requires formed { Formed K.WeightKind.ops (diagram_of (state (contents counts.old stores.old)) body) }
     requires memo { Remembers K.WeightKind.ops (state (contents counts.old stores.old)) memo.old.entries }
     ensures done { Done (Stars K.WeightKind.ops (diagram_of (state (contents counts.old stores.old)) body)) counts.old stores.old counts.new stores.new result }
-    ensures kept { Kept counts.old stores.old counts.new stores.new }
+    ensures kept { NothingLost counts.old stores.old counts.new stores.new }
     ensures memo { OnOk result (Remembers K.WeightKind.ops (state (contents counts.new stores.new)) memo.new.entries) }
 {
     let pass = pass::<K>(stores, counts)?;

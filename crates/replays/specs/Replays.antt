@@ -10,10 +10,12 @@ use Rattle.format.specs.Fields.{fields}
 use Rattle.frames.specs.Frames.{FrameValues, frame_words}
 use Rattle.weights.specs.Weights.{Ops}
 use Rattle.weights.specs.Kinds.{reach_ops, cost_ops}
-use Rattle.tables.specs.Rows.{Row, LegalRows, table_words}
+use Rattle.tables.specs.Rows.{Row, LegalRows, table_words, OfItsRows}
 use Rattle.tables.specs.Emits.{Sent, sent_length, sent_words, Answer}
 use Rattle.tables.specs.Checking.{Stops}
 use Rattle.tables.specs.Forwards.{Refused}
+use Rattle.pages.specs.declared.page.Page.{Page}
+use Rattle.pages.specs.Pages.{SaysSome}
 use Rattle.replays.specs.declared.kind.Kind.{Kind}
 use Rattle.replays.specs.declared.kind.Kind.TheVariants.{Reach, Cost}
 use Rattle.lines.specs.Lines.{table_lines, frame_line, emit_line}
@@ -44,6 +46,13 @@ pub data FramesSaid (o : Ops) (rows : List Row) (room : ℕ) : List ℕ → List
       FrameSaid o rows room (take fields ws) text →
       FramesSaid o rows room (drop fields ws) rest →
       FramesSaid o rows room ws (text ++ rest)
+
+-- what is said of a frame by the table of these words, and of all frames
+abbrev pub SaysFrame : Ops → List ℕ → ℕ → List ℕ → Page → Page → Type 0
+SaysFrame o table room ws old new = OfItsRows o table (λ rows. SaysSome (FrameSaid o rows room ws) old new)
+
+abbrev pub SaysFrames : Ops → List ℕ → ℕ → List ℕ → Page → Page → Type 0
+SaysFrames o table room ws old new = OfItsRows o table (λ rows. SaysSome (FramesSaid o rows room ws) old new)
 
 -- the record of a table's words and the frames' words: the table and each frame, or why the table is refused
 pub data Record (o : Ops) (table frames : List ℕ) : List ℕ → Type 0 where

@@ -3,11 +3,10 @@
 
 ghost use Rattle.std.specs.Prelude.{◌≡◌, ◌*◌, ◌≤◌, length, IfOk};
 ghost use Rattle.tables.specs.Emits.{sent_length};
-ghost use Rattle.tables.specs.Rows.{OfItsRows};
 ghost use Rattle.pages.specs.Pages.{SaysSome};
 ghost use Rattle.replays.specs.Bytes.{words_of};
 ghost use Rattle.replays.specs.Memory.{enough, Replayed};
-ghost use Rattle.replays.specs.Replays.{FrameSaid, FramesSaid, Record, kind_ops};
+ghost use Rattle.replays.specs.Replays.{SaysFrame, SaysFrames, Record, kind_ops};
 
 mod emitted;
 mod kind;
@@ -32,7 +31,7 @@ fn print_frame<K: WeightKind>(
     room: &mut [u32],
     frame: &[u32],
 )
-    ensures { OfItsRows K.WeightKind.ops table.now.words.now (λ rows. SaysSome (FrameSaid K.WeightKind.ops rows (length room.old) frame.now) page.old page.new) }
+    ensures { SaysFrame K.WeightKind.ops table.now.words.now (length room.old) frame.now page.old page.new }
 {
     let line = Line {
         title: "frame",
@@ -52,7 +51,7 @@ fn print_frames<K: WeightKind>(
     room: &mut [u32],
     frames: &[u32],
 )
-    ensures { OfItsRows K.WeightKind.ops table.now.words.now (λ rows. SaysSome (FramesSaid K.WeightKind.ops rows (length room.old) frames.now) page.old page.new) }
+    ensures { SaysFrames K.WeightKind.ops table.now.words.now (length room.old) frames.now page.old page.new }
 {
     for frame in frames.chunks(WIDTH) {
         print_frame(page, table, room, frame);

@@ -1,4 +1,4 @@
-use Rattle.diagrams.specs.Tests.{contents}
+use Rattle.engine.specs.Contents.{contents}
 use Rattle.engine.specs.State.{state}
 use Rattle.engine.specs.Memo.{Remembers}
 use Rattle.engine.specs.Words.{waiting_words}

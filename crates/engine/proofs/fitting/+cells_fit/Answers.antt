@@ -1,7 +1,7 @@
 use Rattle.std.proofs.Common.{Some, sym, arith}
 use Rattle.engine.proofs.Reading.{leaf_counted, action_counted}
 use Rattle.engine.proofs.NarrowRules.{here}
-use Rattle.engine.proofs.Steps.{fits_same, fits_none, cells_none, cells_zero, cells_stop, cells_go_on}
+use Rattle.engine.proofs.InTurn.{fits_same, fits_none, cells_none, cells_zero, cells_stop, cells_go_on}
 use Rattle.engine.proofs.fitting.+cells_fit.Goals as goal
 
 pub cell-own-requires-clause-held : goal.cell-own-requires-clause-held

@@ -2,7 +2,7 @@ use Rattle.std.proofs.Common.{sym, ap, ◌∙◌, take}
 use Rattle.records.specs.declared.kinds.Diagram.{Diagram}
 use Rattle.engine.specs.State.{diagram_of}
 use Rattle.engine.proofs.NarrowRules.{here, leaf_word, node_counted}
-use Rattle.engine.proofs.Steps.{fits_same, leaf_rows, way_room, rows_stop, rows_go_on}
+use Rattle.engine.proofs.InTurn.{fits_same, leaf_rows, way_room, rows_stop, rows_go_on}
 use Rattle.engine.proofs.fitting.+rows_fit.Goals as goal
 
 pub returns-in-Leaf : goal.returns-in-Leaf

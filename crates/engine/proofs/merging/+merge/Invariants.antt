@@ -1,5 +1,5 @@
 use Rattle.std.proofs.Common.{◌+◌, length}
-use Rattle.diagrams.specs.Tests.{contents}
+use Rattle.engine.specs.Contents.{contents}
 use Rattle.engine.specs.State.{state}
 use Rattle.engine.specs.Merging.{strand}
 use Rattle.engine.proofs.merging.+merge.Given as goal

@@ -1,6 +1,6 @@
 use Rattle.std.proofs.Common.{◌+◌, ◌*◌}
 use Rattle.meaning.specs.Diagrams.{extent}
-use Rattle.diagrams.specs.Tests.{contents}
+use Rattle.engine.specs.Contents.{contents}
 use Rattle.engine.specs.State.{state, diagram_of}
 use Rattle.engine.proofs.prefixing.+prefixing.Given as goal
 

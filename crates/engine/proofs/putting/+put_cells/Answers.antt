@@ -1,6 +1,6 @@
 use Rattle.std.proofs.Common.{arith}
 use Rattle.engine.proofs.Reading.{leaf_counted, action_counted}
-use Rattle.engine.proofs.Steps.{pushed, cells_put}
+use Rattle.engine.proofs.InTurn.{pushed, cells_put}
 use Rattle.engine.proofs.putting.+put_cells.Goals as goal
 
 pub cell-own-requires-clause-held : goal.cell-own-requires-clause-held

@@ -1,5 +1,5 @@
 use Rattle.std.proofs.Common.{length}
-use Rattle.diagrams.specs.Tests.{contents}
+use Rattle.engine.specs.Contents.{contents}
 use Rattle.engine.specs.State.{state}
 use Rattle.engine.specs.Leaves.{leaf_at}
 use Rattle.engine.proofs.putting.+put_cells.Given as goal

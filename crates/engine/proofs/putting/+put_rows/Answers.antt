@@ -2,7 +2,7 @@ use Rattle.std.proofs.Common.{sym, ap, ◌∙◌, length, arith}
 use Rattle.records.specs.declared.kinds.Diagram.{Diagram}
 use Rattle.engine.specs.Puts.{diagram_in, way_words}
 use Rattle.engine.proofs.NarrowRules.{leaf_word, node_counted}
-use Rattle.engine.proofs.Steps.{puts_same, leaf_rows, one_leaf, rows_put}
+use Rattle.engine.proofs.InTurn.{puts_same, leaf_rows, one_leaf, rows_put}
 use Rattle.engine.proofs.putting.+put_rows.Goals as goal
 
 pub put_leaf-requires-clause-room : goal.put_leaf-requires-clause-room

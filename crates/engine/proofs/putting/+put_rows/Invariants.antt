@@ -1,5 +1,5 @@
 use Rattle.meaning.specs.Diagrams.{extent}
-use Rattle.diagrams.specs.Tests.{contents}
+use Rattle.engine.specs.Contents.{contents}
 use Rattle.engine.specs.State.{state, diagram_of}
 use Rattle.engine.proofs.putting.+put_rows.Given as goal
 

@@ -3,7 +3,7 @@ use Rattle.format.specs.Words.{word}
 use Rattle.engine.specs.declared.sheet.Sheet.{Sheet}
 use Rattle.engine.specs.Listing.{set_words}
 use Rattle.engine.specs.Puts.{Puts}
-use Rattle.engine.proofs.Steps.{pushed, set_put, set_passed}
+use Rattle.engine.proofs.InTurn.{pushed, set_put, set_passed}
 use Rattle.engine.proofs.putting.+put_sets.Goals.{in-Some, in_default}
 use Rattle.engine.proofs.putting.+put_sets.Goals as goal
 

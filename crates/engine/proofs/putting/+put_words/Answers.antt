@@ -1,5 +1,5 @@
 use Rattle.std.proofs.Common.{refl, arith}
-use Rattle.engine.proofs.Steps.{pushed, word_put}
+use Rattle.engine.proofs.InTurn.{pushed, word_put}
 use Rattle.engine.proofs.putting.+put_words.Goals as goal
 
 pub returns : goal.returns

@@ -2,7 +2,7 @@ use Rattle.std.proofs.Common.{length, ap, refl, sym, subst, ◌∙◌, List, ℕ
 use Rattle.engine.specs.Listed.{AtFront}
 use Rattle.engine.specs.Puts.{diagram_in}
 use Rattle.engine.proofs.Words.{ways_short}
-use Rattle.engine.proofs.Steps.{list_not, list_full, listed, pushed}
+use Rattle.engine.proofs.InTurn.{list_not, list_full, listed, pushed}
 use Rattle.engine.proofs.putting.list.Goals as goal
 
 pub rows_fit-requires-clause-short : goal.rows_fit-requires-clause-short

@@ -2,7 +2,7 @@ use Rattle.std.proofs.Common.{refl, sym, ap, ◌∙◌, arith}
 use Rattle.format.specs.Words.{word}
 use Rattle.engine.specs.Puts.{cells_from, way_words}
 use Rattle.engine.proofs.Words.{long_cells}
-use Rattle.engine.proofs.Steps.{leaf_long, way_long, pushed, begun, leaf_put}
+use Rattle.engine.proofs.InTurn.{leaf_long, way_long, pushed, begun, leaf_put}
 use Rattle.engine.proofs.putting.put_leaf.Goals as goal
 
 pub count_cells-requires-clause-few : goal.count_cells-requires-clause-few

@@ -1,7 +1,7 @@
 use Rattle.std.proofs.Common.{refl, subst, arith}
 use Rattle.faults.proofs.PassedOn.{passed_on}
 use Rattle.meaning.specs.Leaves.{LeafFormed}
-use Rattle.diagrams.specs.Tests.{contents}
+use Rattle.engine.specs.Contents.{contents}
 use Rattle.engine.specs.State.{state}
 use Rattle.engine.proofs.LeafMerges.{leaf_formed_at}
 use Rattle.engine.proofs.Composing.{kept_trans, names_grown}

@@ -1,5 +1,5 @@
 use Rattle.meaning.proofs.Starring.{rounds_bound}
-use Rattle.diagrams.specs.Tests.{contents}
+use Rattle.engine.specs.Contents.{contents}
 use Rattle.engine.specs.State.{state, diagram_of}
 use Rattle.engine.specs.Rounds.{rest, next_round}
 use Rattle.engine.specs.Memo.{Remembers}

@@ -1,0 +1,5 @@
+pub mod Once
+pub mod Outcomes
+pub mod Lengths
+pub mod ShortTexts
+pub mod KnownBytes

@@ -1,7 +1,0 @@
-// Diagrams in stores: a refused construction leaves no trace.
-#![tactic(auto)]
-
-mod construct;
-mod memory;
-
-pub use memory::Stores;

@@ -1,0 +1,4 @@
+pub mod Closing
+pub mod Going
+pub mod Judging
+pub mod Single
