@@ -1,3 +1,4 @@
 pub mod Texts
 pub mod Known
 pub mod Printing
+pub mod Streams

@@ -12,7 +12,7 @@ mod tests;
 mod writing;
 
 use pages::Page;
-pub use running::compile_input;
+pub use running::compile_stream;
 use weights::WeightKind;
 use writing::print_answer;
 

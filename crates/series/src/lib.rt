@@ -12,10 +12,13 @@ mod answering;
 mod calls;
 mod ended;
 mod fault;
+#[cfg(test)]
+mod tests;
 
 use actions::Action;
 use answering::answer_all;
-use bench::{Bench, judge};
+use bench::{Bench, Memories};
+use counts::Sizes;
 pub use calls::{Answer, Call, Operand};
 pub use ended::Ended;
 pub use fault::SeriesFault;
@@ -100,12 +103,21 @@ pub fn perform<K: WeightKind>(
     ensures in_force { OnErr result (in_force.new ≡ in_force.old) }
 {
     let table_words = table.len();
-    let judgement = judge(actions, cells, nodes, table);
-    if let Some(fault) = judgement.fault {
-        return Err(SeriesFault::from(fault));
-    }
+    let sizes = Sizes {
+        actions: actions.len(),
+        cells: cells.len(),
+        nodes: nodes.len(),
+        table_words,
+    };
+    sizes.judge()?;
     judge_lent(calls, table_words, answers, written, in_force)?;
-    let mut bench: Bench<K> = Bench::open(judgement.judged()?);
+    let memories = Memories {
+        actions,
+        cells,
+        nodes,
+        table,
+    };
+    let mut bench: Bench<K> = Bench::open(memories);
     answer_all(&mut bench, calls, answers, written);
     Ok(end(&bench, in_force))
 }
