@@ -7,7 +7,7 @@ use tables::SENT_WORDS;
 
 // The words of emitted frames.
 #[derive(Clone, Copy)]
-pub(crate) struct Emitted<'a>(pub(crate) &'a [u32]);
+pub struct Emitted<'a>(pub &'a [u32]);
 
 impl Print for Emitted<'_> {
     ghost output = { λ e. emit_lines e.0.now };

@@ -13,7 +13,7 @@ mod kind;
 mod short;
 mod words;
 
-use emitted::Emitted;
+pub use emitted::Emitted;
 use faults::Shown;
 use frames::WIDTH;
 pub use kind::{Kind, UnknownKind};

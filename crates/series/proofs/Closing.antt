@@ -6,8 +6,8 @@ use Rattle.counts.specs.Memory.{AllFit}
 use Rattle.steps.specs.States.{State, opened}
 use Rattle.steps.specs.Steps as bench
 use Rattle.steps.proofs.Performing.{every_series}
-use Rattle.series.specs.declared.calls.Call.{Call}
-use Rattle.series.specs.declared.calls.Answer.{Answer}
+use Rattle.calls.specs.declared.Call.{Call}
+use Rattle.series.specs.declared.answers.Answer.{Answer}
 use Rattle.series.specs.declared.ended.Ended.{Ended}
 use Rattle.series.specs.Series.{Ends, Performs}
 use Rattle.series.specs.Turns.{Went}

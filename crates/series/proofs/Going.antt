@@ -7,8 +7,8 @@ use borrow.Rule.Slice.PartMut.{put_mid}
 use Rattle.weights.specs.Weights.{Ops}
 use Rattle.steps.specs.States.{State}
 use Rattle.steps.specs.Steps as bench
-use Rattle.series.specs.declared.calls.Call.{Call}
-use Rattle.series.specs.declared.calls.Answer.{Answer}
+use Rattle.calls.specs.declared.Call.{Call}
+use Rattle.series.specs.declared.answers.Answer.{Answer}
 use Rattle.series.specs.Calls.{part_length, parts_length}
 use Rattle.series.specs.Series.{Turns, none, next}
 use Rattle.series.specs.Turns.{Answered, Went}

@@ -5,7 +5,7 @@ use Rattle.faults.specs.declared.layers.StoreFault.{StoreFault}
 use Rattle.faults.specs.declared.layers.StoreFault.TheVariants.{Full, NotHeld, BadMemory}
 use Rattle.counts.specs.declared.memory.Sizes.{Sizes}
 use Rattle.counts.specs.Memory.{AllFit, FirstWrong, actions_wrong, cells_wrong, nodes_wrong, table_wrong, Unfit}
-use Rattle.series.specs.declared.calls.Call.{Call}
+use Rattle.calls.specs.declared.Call.{Call}
 use Rattle.series.specs.declared.fault.SeriesFault.{SeriesFault}
 use Rattle.series.specs.declared.fault.SeriesFault.TheVariants.{Memory, Written}
 use Rattle.series.specs.Calls.{parts_length}

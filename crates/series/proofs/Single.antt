@@ -8,10 +8,10 @@ use Rattle.weights.specs.Weights.{Ops}
 use Rattle.bench.specs.Replies.{word_reply, install_reply, forward_reply}
 use Rattle.steps.specs.States.{State}
 use Rattle.steps.specs.Steps as bench
-use Rattle.series.specs.declared.calls.Call.{Call}
-use Rattle.series.specs.declared.calls.Call.TheVariants.{Compile}
-use Rattle.series.specs.declared.calls.Answer.{Answer}
-use Rattle.series.specs.declared.calls.Answer.TheVariants.{Word, Installed, Written, Refused}
+use Rattle.calls.specs.declared.Call.{Call}
+use Rattle.calls.specs.declared.Call.TheVariants.{Compile}
+use Rattle.series.specs.declared.answers.Answer.{Answer}
+use Rattle.series.specs.declared.answers.Answer.TheVariants.{Word, Installed, Written, Refused}
 use Rattle.series.specs.Calls.{part_length, Asks, told, Leaves}
 use Rattle.series.specs.Series.{unread, asked}
 use Rattle.series.specs.Turns.{answer_of, Answered}

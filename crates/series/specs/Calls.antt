@@ -7,12 +7,12 @@ use Rattle.checking.specs.Checked.{policy_words}
 use Rattle.policy.specs.Texts.{Judged}
 use Rattle.bench.specs.Texts.{words_memory}
 use Rattle.steps.specs.Steps as bench
-use Rattle.series.specs.declared.calls.Operand.{Operand}
-use Rattle.series.specs.declared.calls.Operand.TheVariants as operand
-use Rattle.series.specs.declared.calls.Call.{Call}
-use Rattle.series.specs.declared.calls.Call.TheVariants.{Compile, Union, Sequence, Star, Install, Forward}
-use Rattle.series.specs.declared.calls.Answer.{Answer}
-use Rattle.series.specs.declared.calls.Answer.TheVariants.{Word, Installed, Written, Refused}
+use Rattle.calls.specs.declared.Operand.{Operand}
+use Rattle.calls.specs.declared.Operand.TheVariants as operand
+use Rattle.calls.specs.declared.Call.{Call}
+use Rattle.calls.specs.declared.Call.TheVariants.{Compile, Union, Sequence, Star, Install, Forward}
+use Rattle.series.specs.declared.answers.Answer.{Answer}
+use Rattle.series.specs.declared.answers.Answer.TheVariants.{Word, Installed, Written, Refused}
 
 -- how many words of memory a call is given for its answer
 abbrev pub part_length : Call → ℕ

@@ -9,9 +9,9 @@ use Rattle.counts.specs.Memory.{AllFit, Unfit}
 use Rattle.steps.specs.States.{State, opened}
 use Rattle.steps.specs.Steps as bench
 use Rattle.steps.specs.Law.{Performed}
-use Rattle.series.specs.declared.calls.Call.{Call}
-use Rattle.series.specs.declared.calls.Answer.{Answer}
-use Rattle.series.specs.declared.calls.Answer.TheVariants.{Refused}
+use Rattle.calls.specs.declared.Call.{Call}
+use Rattle.series.specs.declared.answers.Answer.{Answer}
+use Rattle.series.specs.declared.answers.Answer.TheVariants.{Refused}
 use Rattle.series.specs.declared.fault.SeriesFault.{SeriesFault}
 use Rattle.series.specs.declared.fault.SeriesFault.TheVariants.{Memory, Answers, Written, InForce}
 use Rattle.series.specs.declared.ended.Ended.{Ended}

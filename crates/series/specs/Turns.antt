@@ -4,9 +4,9 @@ use Rattle.faults.specs.declared.layers.BenchFault.{BenchFault}
 use Rattle.weights.specs.Weights.{Ops}
 use Rattle.steps.specs.States.{State}
 use Rattle.steps.specs.Steps as bench
-use Rattle.series.specs.declared.calls.Call.{Call}
-use Rattle.series.specs.declared.calls.Answer.{Answer}
-use Rattle.series.specs.declared.calls.Answer.TheVariants.{Refused}
+use Rattle.calls.specs.declared.Call.{Call}
+use Rattle.series.specs.declared.answers.Answer.{Answer}
+use Rattle.series.specs.declared.answers.Answer.TheVariants.{Refused}
 use Rattle.series.specs.Calls.{parts_length, Leaves}
 use Rattle.series.specs.Series.{Turn, Turns, Lent}
 

@@ -3,8 +3,9 @@ ghost use Rattle.std.specs.Prelude.{◌≡◌, ◌≤◌, length};
 ghost use Rattle.series.specs.Calls.{part_length, parts_length};
 ghost use Rattle.series.specs.Turns.{answer_of, Answered, Went};
 
-use super::calls::{Answer, Call};
+use super::answers::{Answer, part_len, word_of};
 use bench::Bench;
+use calls::Call;
 use faults::BenchFault;
 use weights::WeightKind;
 
@@ -21,13 +22,15 @@ fn make<K: WeightKind>(
     match call {
         Call::Compile(text) => bench.compile_text(text).map(Answer::Word),
         Call::Union(left, right) => bench
-            .union(left.word(given), right.word(given))
+            .union(word_of(*left, given), word_of(*right, given))
             .map(Answer::Word),
         Call::Sequence(first, second) => bench
-            .sequence(first.word(given), second.word(given))
+            .sequence(word_of(*first, given), word_of(*second, given))
             .map(Answer::Word),
-        Call::Star(operand) => bench.star(operand.word(given)).map(Answer::Word),
-        Call::Install(operand) => bench.install(operand.word(given)).map(Answer::Installed),
+        Call::Star(operand) => bench.star(word_of(*operand, given)).map(Answer::Word),
+        Call::Install(operand) => bench
+            .install(word_of(*operand, given))
+            .map(Answer::Installed),
         Call::Forward(frame, _) => bench.forward(frame, words).map(Answer::Written),
     }
 }
@@ -58,7 +61,7 @@ pub(crate) fn answer_all<K: WeightKind>(
 {
     let mut from = 0;
     for (place, call) in calls.iter().enumerate() {
-        let to = from + call.part_len();
+        let to = from + part_len(call);
         let given = answer(bench, &answers[..place], call, &mut written[from..to]);
         answers[place] = given;
         from = to;

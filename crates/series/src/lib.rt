@@ -9,7 +9,7 @@ ghost use Rattle.series.specs.Turns.{Enough};
 ghost use Rattle.bench.specs.Sizes.{sizes};
 
 mod answering;
-mod calls;
+mod answers;
 mod ended;
 mod fault;
 #[cfg(test)]
@@ -17,8 +17,9 @@ mod tests;
 
 use actions::Action;
 use answering::answer_all;
+pub use answers::{Answer, part_len};
 use bench::{Bench, Memories};
-pub use calls::{Answer, Call, Operand};
+use calls::Call;
 use counts::Sizes;
 pub use ended::Ended;
 pub use fault::SeriesFault;
@@ -31,7 +32,7 @@ fn parts_len(calls: &[Call<'_>]) -> usize
 {
     let mut needed: usize = 0;
     for call in calls {
-        needed = needed.saturating_add(call.part_len());
+        needed = needed.saturating_add(part_len(call));
     }
     needed
 }

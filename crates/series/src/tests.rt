@@ -1,6 +1,7 @@
 // One series through every kind of call.
-use super::{Answer, Call, Ended, Operand, SeriesFault, perform};
+use super::{Answer, Ended, SeriesFault, perform};
 use actions::Action;
+use calls::{Call, Operand};
 use counts::Counts;
 use faults::{BenchFault, FrameFault, StoreFault};
 use format::{Amount, Setting};

@@ -1,0 +1,3 @@
+mod Answering
+mod Reading
+mod Refusing

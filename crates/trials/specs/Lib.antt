@@ -1,0 +1,3 @@
+pub mod Ready
+pub mod Records
+pub mod Trials
