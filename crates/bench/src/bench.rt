@@ -1,6 +1,7 @@
 // The bench and its calls.
 ghost use Rattle.std.specs.Prelude.{◌≡◌, ◌≤◌, length, drop, replicate, IfOk, OnErr};
 ghost use Rattle.checking.specs.Checked.{policy_words};
+ghost use Rattle.engine.specs.Shapes.{Shows};
 ghost use Rattle.steps.specs.States.{opened};
 ghost use Rattle.steps.specs.Steps.{Step, Compile, Union, Sequence, Star, Install, Forward};
 ghost use Rattle.bench.specs.Sizes.{sizes_in};
@@ -11,7 +12,7 @@ ghost use Rattle.bench.specs.Reading.{PassesTheCheck, ForwardsAlike};
 use super::installing::put_in_force;
 use super::memories::Memories;
 use counts::Counts;
-use engine::Engine;
+use engine::{Engine, Shape};
 use faults::BenchFault;
 use format::WORDS_LIMIT;
 use listing::drop_table;
@@ -124,6 +125,13 @@ impl<K: WeightKind> Bench<'_, K> {
         ensures forwards { ForwardsAlike K.WeightKind.ops self.now }
     {
         self.table.checked()
+    }
+
+    // What a diagram in store is at its top; none where the word is not held.
+    pub fn read(&self, word: u32) -> Option<Shape>
+        ensures { Shows self.now.stored word result }
+    {
+        self.engine.read(word)
     }
 
     // How many records are in store.

@@ -6,4 +6,5 @@ mod installing;
 mod memories;
 
 pub use bench::Bench;
+pub use engine::Shape;
 pub use memories::Memories;

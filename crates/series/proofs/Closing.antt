@@ -1,5 +1,5 @@
 -- The end of a series on a bench that was opened. Assumes nothing.
-use Rattle.std.proofs.Common.{◌≡◌, ℕ, ◌≤◌, List, [], ◌∷◌, length, refl, sym, ap, ◌∙◌, subst, arith}
+use Rattle.std.proofs.Common.{◌≡◌, ℕ, ◌≤◌, List, [], ◌∷◌, length, refl, sym, ◌∙◌, subst, arith}
 use Rattle.weights.specs.Weights.{Ops, Laws}
 use Rattle.counts.specs.declared.memory.Sizes.{Sizes}
 use Rattle.counts.specs.Memory.{AllFit}
@@ -11,11 +11,6 @@ use Rattle.series.specs.declared.answers.Answer.{Answer}
 use Rattle.series.specs.declared.ended.Ended.{Ended}
 use Rattle.series.specs.Series.{Ends, Performs}
 use Rattle.series.specs.Turns.{Went}
-
-pub same_sizes :
-    (a a' c c' n n' t t' : ℕ) → a ≡ a' → c ≡ c' → n ≡ n' → t ≡ t' →
-    ◌≡◌ {A = Sizes} (record { actions = a; cells = c; nodes = n; table_words = t }) (record { actions = a'; cells = c'; nodes = n'; table_words = t' })
-same_sizes a a' c c' n n' t t' p q r u i = record { actions = p i; cells = q i; nodes = r i; table_words = u i }
 
 step_room : (o : Ops) (s : State) (c : bench.Call) (r : bench.Reply) (s' : State) → bench.Step o s c r s' → length s.table ≤ s.table_room → (length s'.table ≤ s'.table_room) × (s'.table_room ≡ s.table_room)
 step_room o s c r _ (bench.refused k) h = (h, refl)
@@ -37,18 +32,18 @@ run_room o s (c ∷ cs) (r ∷ rs) s' k h =
 
 -- no table in force is longer than its memory
 pub table_fits :
-    (o : Ops) (z z' : Sizes) (s : State) (cs : List bench.Call) (rs : List bench.Reply) (s' : State) → z ≡ z' → AllFit z' → s ≡ opened z → bench.Run o s cs rs s' →
-    length s'.table ≤ z'.table_words
-table_fits o z z' s cs rs s' q h e k =
-    let a = run_room o (opened z') cs rs s' (subst (λ (x : State). bench.Run o x cs rs s') (e ∙ ap opened q) k) h.table_fits.0 in
+    (o : Ops) (z : Sizes) (s : State) (cs : List bench.Call) (rs : List bench.Reply) (s' : State) → AllFit z → s ≡ opened z → bench.Run o s cs rs s' →
+    length s'.table ≤ z.table_words
+table_fits o z s cs rs s' h e k =
+    let a = run_room o (opened z) cs rs s' (subst (λ (x : State). bench.Run o x cs rs s') e k) h.table_fits.0 in
     omega (arith, a.0, a.1)
 
 -- a series on a bench that was opened
 pub performs :
-    (o : Ops) → Laws o → (z z' : Sizes) (s : State) (calls : List Call) (A A' : List Answer) (W W' T T' : List ℕ) (last : State) (ended : Ended) →
-    z ≡ z' → AllFit z' → s ≡ opened z → Went o s calls A A' W W' last → Ends last ended T T' →
-    Performs o z' calls (record { answers = A; written = W; in_force = T }) (record { answers = A'; written = W'; in_force = T' }) ended
-performs o L z z' s calls A A' W W' T T' last ended q h e w k =
+    (o : Ops) → Laws o → (z : Sizes) (s : State) (calls : List Call) (A A' : List Answer) (W W' T T' : List ℕ) (last : State) (ended : Ended) →
+    AllFit z → s ≡ opened z → Went o s calls A A' W W' last → Ends last ended T T' →
+    Performs o z calls (record { answers = A; written = W; in_force = T }) (record { answers = A'; written = W'; in_force = T' }) ended
+performs o L z s calls A A' W W' T T' last ended h e w k =
     record {
       answers = w.given;
       words = w.words;
@@ -56,7 +51,7 @@ performs o L z z' s calls A A' W W' T T' last ended q h e w k =
       replies = w.replies;
       last = last;
       turns = w.turns;
-      performed = every_series o L z' h w.asked w.replies last (subst (λ (x : State). bench.Run o x w.asked w.replies last) (e ∙ ap opened q) w.run);
+      performed = every_series o L z h w.asked w.replies last (subst (λ (x : State). bench.Run o x w.asked w.replies last) e w.run);
       answers_told = w.answers_told;
       words_written = w.words_written;
       ends = k;

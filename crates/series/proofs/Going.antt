@@ -26,7 +26,7 @@ turns_lengths :
     (calls : List Call) (answers : List Answer) (was is : List ℕ) (cs : List bench.Call) (rs : List bench.Reply) → Turns calls answers was is cs rs →
     (length answers ≡ length calls) × (length is ≡ length was)
 turns_lengths _ _ _ _ _ _ none = (refl, refl)
-turns_lengths _ _ _ _ _ _ (next {calls = calls} {answers = answers} {was = was} {is = is} {call = call} {answer = answer} {part = part} {part' = part'} h p q l t) =
+turns_lengths _ _ _ _ _ _ (next {calls = calls} {answers = answers} {was = was} {is = is} {call = call} {answer = answer} {part = part} {part' = part'} h p q t) =
     let k = turns_lengths calls answers was is _ _ h in (
       omega (arith, k.0, length-append calls (call ∷ []), length-append answers (answer ∷ [])),
       omega (arith, k.1, p, q, length-append was part, length-append is part'),
@@ -49,7 +49,7 @@ went_next o s cs call A0 A W0 W part' m a m' w h fits n =
       turns =
           subst (λ (x : List ℕ). Turns (cs ++ (call ∷ [])) (w.given ++ (a ∷ [])) x (w.words ++ part') (w.asked ++ h.asked) (w.replies ++ h.replies))
           (sym (take-add (parts_length cs) (part_length call) W0) ∙ ap (λ (k : ℕ). take k W0) (sym (rooms_more cs call)))
-          (next w.turns (length-take-le (part_length call) (drop (parts_length cs) W0) (let d = length-drop (parts_length cs) W0 in omega (arith, d, fits))) n h.leaves h.turn);
+          (next w.turns (length-take-le (part_length call) (drop (parts_length cs) W0) (let d = length-drop (parts_length cs) W0 in omega (arith, d, fits))) n h.turn);
       run = run_then o s w.asked w.replies m h.asked h.replies m' w.run h.run;
       answers_told =
           sym (append_assoc w.given (a ∷ []) (drop (length cs + 1) A0)) ∙ ap (λ (k : ℕ). (w.given ++ (a ∷ [])) ++ drop k A0) (sym (length-append cs (call ∷ [])));

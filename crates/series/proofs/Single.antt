@@ -71,8 +71,7 @@ module _ (o : Ops) (answers : List Answer) (call call' : Call) (s : State) (same
       (record {
         asked = c ∷ [];
         replies = told (answer_by f r) is ∷ [];
-        turn = asked (subst (λ (y : Call). Asks answers y (Ok c)) (sym same) asks);
-        leaves = leaves;
+        turn = asked (subst (λ (y : Call). Asks answers y (Ok c)) (sym same) asks) leaves;
         run = (s', subst (λ (y : bench.Reply). bench.Step o s c y s') e step, refl);
       })
 
@@ -105,8 +104,9 @@ answered_text o answers call text s _ q was _ same n maps (text_refused {f} is j
     record {
       asked = [];
       replies = [];
-      turn = unread (subst (λ (y : Call). Asks answers y (Err f)) (sym same) (Err f, record { words = is; judged = judged }, refl)) told_so;
-      leaves = subst (λ (a : Answer). Leaves a was was) (sym told_so) (none_left was (n ∙ ap part_length same));
+      turn =
+          unread (subst (λ (y : Call). Asks answers y (Err f)) (sym same) (Err f, record { words = is; judged = judged }, refl)) told_so
+          (subst (λ (a : Answer). Leaves a was was) (sym told_so) (none_left was (n ∙ ap part_length same)));
       run = refl;
     }
 answered_text o answers call text s r q was s' same n maps (compiled {p = policy} is judged step) =

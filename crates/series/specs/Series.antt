@@ -20,8 +20,8 @@ use Rattle.series.specs.Calls.{parts_length, part_length, Asks, told, Leaves}
 -- what came of a call after these answers: its answer, its part of memory before and after, and what the bench was asked and replied
 pub data Turn (answers : List Answer) (call : Call) (answer : Answer) (was is : List ℕ) : List bench.Call → List bench.Reply → Type 0 where
   -- the text is no policy, and the bench is not asked
-  unread : {f : CompileFault} → Asks answers call (Err f) → answer ≡ Refused (Text f) → Turn answers call answer was is [] []
-  asked : {c : bench.Call} → Asks answers call (Ok c) → Turn answers call answer was is (c ∷ []) (told answer is ∷ [])
+  unread : {f : CompileFault} → Asks answers call (Err f) → answer ≡ Refused (Text f) → Leaves answer was is → Turn answers call answer was is [] []
+  asked : {c : bench.Call} → Asks answers call (Ok c) → Leaves answer was is → Turn answers call answer was is (c ∷ []) (told answer is ∷ [])
 
 -- what came of calls one after another: each takes the next answer and the next part of memory
 pub data Turns : List Call → List Answer → List ℕ → List ℕ → List bench.Call → List bench.Reply → Type 0 where
@@ -32,7 +32,6 @@ pub data Turns : List Call → List Answer → List ℕ → List ℕ → List be
       Turns calls answers was is cs rs →
       length part ≡ part_length call →
       length part' ≡ part_length call →
-      Leaves answer part part' →
       Turn answers call answer part part' c r →
       Turns (calls ++ (call ∷ [])) (answers ++ (answer ∷ [])) (was ++ part) (is ++ part') (cs ++ c) (rs ++ r)
 

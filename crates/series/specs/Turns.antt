@@ -7,7 +7,7 @@ use Rattle.steps.specs.Steps as bench
 use Rattle.calls.specs.declared.Call.{Call}
 use Rattle.series.specs.declared.answers.Answer.{Answer}
 use Rattle.series.specs.declared.answers.Answer.TheVariants.{Refused}
-use Rattle.series.specs.Calls.{parts_length, Leaves}
+use Rattle.series.specs.Calls.{parts_length}
 use Rattle.series.specs.Series.{Turn, Turns, Lent}
 
 -- a refusal is an answer too
@@ -20,7 +20,6 @@ pub record Answered (o : Ops) (answers : List Answer) (call : Call) (s : State) 
   pub asked : List bench.Call
   pub replies : List bench.Reply
   pub turn : Turn answers call answer was is asked replies
-  pub leaves : Leaves answer was is
   pub run : bench.Run o s asked replies s'
 
 -- what calls did to the bench and to the memories for answers and for words

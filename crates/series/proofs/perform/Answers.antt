@@ -1,4 +1,4 @@
-use Rattle.std.proofs.Common.{Err, refl, ap, ◌∙◌, arith}
+use Rattle.std.proofs.Common.{Err, ap, ◌∙◌, arith}
 use Rattle.std.proofs.lemmas.Result.{err_from_is_err_and}
 use Rattle.faults.proofs.PassedOn.{passed_on}
 use Rattle.bench.specs.Sizes.{sizes}
@@ -22,7 +22,7 @@ pub end-requires : goal.end-requires
 end-requires g c =
     let z = sizes c.args.actions.now c.args.cells.now c.args.nodes.now c.args.table.now in
     let w = c.answer_all.ensures in
-    let h = table_fits g.K.WeightKind.ops _ z c.open-bench.result w.asked w.replies c.answer_all.new.bench refl c.in_ok-judge.ensures c.open-bench.ensures w.run in
+    let h = table_fits g.K.WeightKind.ops z c.open-bench.result w.asked w.replies c.answer_all.new.bench c.in_ok-judge.ensures c.open-bench.ensures w.run in
     let e = c.in_ok-judge_lent.ensures.in_force in
     omega (arith, h, e)
 
@@ -34,5 +34,5 @@ returns-clause-refused g c =
 pub returns-clause-performed : goal.returns-clause-performed
 returns-clause-performed g c =
     let z = sizes c.args.actions.now c.args.cells.now c.args.nodes.now c.args.table.now in
-    performs g.K.WeightKind.ops g.met.K.WeightKind.lawful _ z c.open-bench.result c.args.calls.now c.args.answers.now c.answer_all.new.answers c.args.written.now c.answer_all.new.written
-    c.args.in_force.now c.end.new.in_force c.answer_all.new.bench c.end.result refl c.in_ok-judge.ensures c.open-bench.ensures c.answer_all.ensures c.end.ensures
+    performs g.K.WeightKind.ops g.met.K.WeightKind.lawful z c.open-bench.result c.args.calls.now c.args.answers.now c.answer_all.new.answers c.args.written.now c.answer_all.new.written
+    c.args.in_force.now c.end.new.in_force c.answer_all.new.bench c.end.result c.in_ok-judge.ensures c.open-bench.ensures c.answer_all.ensures c.end.ensures
