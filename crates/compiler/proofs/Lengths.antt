@@ -1,17 +1,20 @@
 -- Every answer fits.
-use Rattle.std.proofs.Common.{◌≡◌, ℕ, ◌*◌, ◌^◌, ◌≤◌, ◌<◌, List, [], ◌∷◌, ◌++◌, length, take, drop, decimal, Ok, Err, Result, sym, refl, ap, ◌∙◌, arith, length-append, ◌⊎◌, inl, inr, true≢false}
+use Rattle.std.proofs.Common.{◌≡◌, ℕ, ◌+◌, ◌*◌, ◌^◌, ◌≤◌, ◌<◌, List, [], ◌∷◌, ◌++◌, length, take, drop, decimal, Ok, Err, Result, sym, refl, ap, ◌∙◌, arith, length-append, ◌⊎◌, inl, inr, true≢false}
 use Rattle.std.specs.Prelude.{codes}
 use Rattle.std.specs.Int.{to_be_bytes, w32}
 use Rattle.std.proofs.lemmas.Fmt.{length-decimal-le}
 use Rattle.std.proofs.Math.Seq.{take-append_seam, drop-append_seam}
+use Rattle.format.specs.Limits.{text_limit}
 use Rattle.faults.specs.Lines.{refused_line}
 use Rattle.faults.specs.declared.Shown.{Shown}
 use Rattle.weights.specs.Weights.{Ops}
 use Rattle.pages.specs.declared.page.Page.{Page}
 use Rattle.pages.specs.Pages.{Answered, Printed, fits, short}
 use Rattle.pages.proofs.Saying.{printed}
-use Rattle.compiler.specs.Texts.{sizes, bytes_of_words, Gives, compiled, Compiles}
+use Rattle.compiler.specs.Texts.{sizes, bytes_of_words, Gives, compiled, Compiles, OnlyBytes}
 use Rattle.compiler.specs.Printing.{PrintsAnswer}
+use Rattle.compiler.proofs.Once.{only_bytes}
+use Rattle.compiler.proofs.Cut.{of_front}
 
 four_each : (words : List ℕ) → length (bytes_of_words words) ≡ 4 * length words
 four_each [] = refl
@@ -47,12 +50,22 @@ front_of {bytes} {was} {n = n} r e h (fits k) =
     }
 front_of r e h (short k) = absurd (omega arith)
 
-pub written :
+-- what is said of the first n bytes of memory, and of the rest
+pub record Told (o : Ops) (text was is : List ℕ) (n : ℕ) : Type 0 where
+  pub bytes : Compiles o text (take n is)
+  pub only : OnlyBytes o text (take n is)
+  pub front : (whole : List ℕ) → text ≡ take (text_limit + 1) whole → Compiles o whole (take n is)
+  pub rest : drop n is ≡ drop n was
+
+pub told :
     {o : Ops} {text was is : List ℕ} {a b : Page} {n : ℕ} (r : Result ℕ ℕ) (p : PrintsAnswer o text a b) →
     a.said ≡ 0 → a.memory.now ≡ was → length was ≡ 4 * sizes.table_words → Answered b.said (length b.memory.now) r → (r ≡ Ok n) ⊎ (r ≡ Err n) → is ≡ b.memory.now →
-    Compiles o text (take n is) × (drop n is ≡ drop n was)
-written {was = was} {is = is} {b = b} {n = n} r p blank old room answered e new =
-    let f = front_of r e (let long = ap length old in let l = p.short in omega (arith, long, room, l)) (printed blank refl p.says answered refl) in (
-      (p.compiled.0, p.compiled.1, ap (take n) new ∙ f.front ∙ p.compiled.2),
-      ap (drop n) new ∙ f.behind ∙ ap (drop n) old,
-    )
+    Told o text was is n
+told {o} {text} {was} {is} {a = a} {b = b} {n = n} r p blank old room answered e new =
+    record { bytes = bytes; only = only_bytes o text (take n is) bytes; front = of_front o text (take n is) bytes; rest = ap (drop n) new ∙ f.behind ∙ ap (drop n) old }
+  where
+    f : Front p.bytes a.memory.now n b.memory.now
+    f = front_of r e (let long = ap length old in let l = p.short in omega (arith, long, room, l)) (printed blank refl p.says answered refl)
+
+    bytes : Compiles o text (take n is)
+    bytes = (p.compiled.0, p.compiled.1, ap (take n) new ∙ f.front ∙ p.compiled.2)

@@ -1,4 +1,3 @@
 pub mod Texts
 pub mod Known
 pub mod Printing
-pub mod Streams

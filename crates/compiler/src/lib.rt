@@ -1,18 +1,17 @@
 // Policy texts compiled to the bytes of tables.
 #![tactic(auto)]
 
-ghost use Rattle.std.specs.Prelude.{◌≡◌, ◌≤◌, length, take, drop};
+ghost use Rattle.std.specs.Prelude.{◌≡◌, ℕ, ◌+◌, ◌≤◌, List, length, take, drop};
+ghost use Rattle.format.specs.Limits.{text_limit};
 ghost use Rattle.compiler.specs.Known.{KnownTexts};
 ghost use Rattle.compiler.specs.Texts.{Compiles, OnlyBytes};
 
 mod installing;
-mod running;
 #[cfg(test)]
 mod tests;
 mod writing;
 
 use pages::Page;
-pub use running::compile_stream;
 use weights::WeightKind;
 use writing::print_answer;
 
@@ -28,6 +27,8 @@ pub fn compile_text<K: WeightKind>(text: &[u8], out: &mut [u8; ANSWER_BYTES]) ->
     ensures fits { result ≤ length out.old }
     ensures bytes { Compiles K.WeightKind.ops text.now (take result out.new) }
     ensures only { OnlyBytes K.WeightKind.ops text.now (take result out.new) }
+    // What stands behind the byte past the limit makes no difference, so it need not be read.
+    ensures front { (whole : List ℕ) → text.now ≡ take (text_limit + 1) whole → Compiles K.WeightKind.ops whole (take result out.new) }
     ensures rest { drop result out.new ≡ drop result out.old }
 {
     let mut page = Page::new(out);

@@ -136,22 +136,32 @@ const REFUSED: [Refused; 20] = [
         line: "refused 3 layer 2 place 0\n",
     },
     Refused {
-        text: "pt:=1+pt:=2+pt:=3+pt:=4+pt:=5+pt:=6+pt:=7+pt:=8+pt:=9+pt:=10+pt:=11+pt:=12+pt:=13+pt:=14+pt:=15+pt:=16+pt:=17+pt:=18+pt:=19+pt:=20+pt:=21+pt:=22+pt:=23+pt:=24+pt:=25+pt:=26+pt:=27+pt:=28+pt:=29+pt:=30+pt:=31+pt:=32",
+        text: "pt:=1+pt:=2+pt:=3+pt:=4+pt:=5+pt:=6+pt:=7+pt:=8+pt:=9+pt:=10+pt:=11+pt:=12+pt:=13+pt:=14+pt:=15+\
+            pt:=16+pt:=17+pt:=18+pt:=19+pt:=20+pt:=21+pt:=22+pt:=23+pt:=24+pt:=25+pt:=26+pt:=27+pt:=28+pt:=29+\
+            pt:=30+pt:=31+pt:=32",
         line: "refused 9 layer 4 place 0\n",
     },
     Refused {
-        text: "(vlan=25+vlan=24+vlan=23+vlan=22+vlan=21+vlan=20+vlan=19+vlan=18+vlan=17+vlan=16+vlan=15+vlan=14+vlan=13+vlan=12+vlan=11+vlan=10+vlan=9+vlan=8+vlan=7+vlan=6+vlan=5+vlan=4+vlan=3+vlan=2+vlan=1);(pt:=20+pt:=19+pt:=18+pt:=17+pt:=16+pt:=15+pt:=14+pt:=13+pt:=12+pt:=11+pt:=10+pt:=9+pt:=8+pt:=7+pt:=6+pt:=5+pt:=4+pt:=3+pt:=2+pt:=1)",
+        text: "(vlan=25+vlan=24+vlan=23+vlan=22+vlan=21+vlan=20+vlan=19+vlan=18+vlan=17+vlan=16+vlan=15+vlan=14+\
+            vlan=13+vlan=12+vlan=11+vlan=10+vlan=9+vlan=8+vlan=7+vlan=6+vlan=5+vlan=4+vlan=3+vlan=2+\
+            vlan=1);(pt:=20+pt:=19+pt:=18+pt:=17+pt:=16+pt:=15+pt:=14+pt:=13+pt:=12+pt:=11+pt:=10+pt:=9+pt:=8+\
+            pt:=7+pt:=6+pt:=5+pt:=4+pt:=3+pt:=2+pt:=1)",
         line: "refused 11 layer 5 place 0\n",
     },
 ];
 
 // As many sets as fill the stores, but for one more.
 const MANY_SETS: &str =
-    "pt:=1+pt:=2+pt:=3+pt:=4+pt:=5+pt:=6+pt:=7+pt:=8+pt:=9+pt:=10+pt:=11+pt:=12+pt:=13+pt:=14+pt:=15+pt:=16+pt:=17+pt:=18+pt:=19+pt:=20+pt:=21+pt:=22+pt:=23+pt:=24+pt:=25+pt:=26+pt:=27+pt:=28+pt:=29+pt:=30+pt:=31";
+    "pt:=1+pt:=2+pt:=3+pt:=4+pt:=5+pt:=6+pt:=7+pt:=8+pt:=9+pt:=10+pt:=11+pt:=12+pt:=13+pt:=14+pt:=15+\
+        pt:=16+pt:=17+pt:=18+pt:=19+pt:=20+pt:=21+pt:=22+pt:=23+pt:=24+pt:=25+pt:=26+pt:=27+pt:=28+pt:=29+\
+        pt:=30+pt:=31";
 
 // As many tests before sets as fill a table, but for one more.
 const MANY_ROWS: &str =
-    "(vlan=24+vlan=23+vlan=22+vlan=21+vlan=20+vlan=19+vlan=18+vlan=17+vlan=16+vlan=15+vlan=14+vlan=13+vlan=12+vlan=11+vlan=10+vlan=9+vlan=8+vlan=7+vlan=6+vlan=5+vlan=4+vlan=3+vlan=2+vlan=1);(pt:=20+pt:=19+pt:=18+pt:=17+pt:=16+pt:=15+pt:=14+pt:=13+pt:=12+pt:=11+pt:=10+pt:=9+pt:=8+pt:=7+pt:=6+pt:=5+pt:=4+pt:=3+pt:=2+pt:=1)";
+    "(vlan=24+vlan=23+vlan=22+vlan=21+vlan=20+vlan=19+vlan=18+vlan=17+vlan=16+vlan=15+vlan=14+vlan=13+\
+        vlan=12+vlan=11+vlan=10+vlan=9+vlan=8+vlan=7+vlan=6+vlan=5+vlan=4+vlan=3+vlan=2+vlan=1);(pt:=20+\
+        pt:=19+pt:=18+pt:=17+pt:=16+pt:=15+pt:=14+pt:=13+pt:=12+pt:=11+pt:=10+pt:=9+pt:=8+pt:=7+pt:=6+pt:=5+\
+        pt:=4+pt:=3+pt:=2+pt:=1)";
 
 // Whether these bytes are written, and nothing behind them.
 fn writes(text: &[u8], bytes: &[u8]) -> bool {
