@@ -1,3 +1,4 @@
 mod Answering
 mod Reading
 mod Refusing
+mod Within

@@ -45,3 +45,8 @@ pub data Tried (o : Ops) (z : Sizes) (script : List ℕ) (room : ℕ) (was : Lis
   short : {cs : List Asked} → script_said script ≡ Ok cs → length cs ≤ calls_limit → room < enough cs z → Tried o z script room was (Err (Words (min most (enough cs z)))) was
   told : {text : List ℕ} {n : ℕ} {is : List ℕ} → TellsScript o z script text → Printed text was (Ok n) is → Tried o z script room was (Ok (Record n)) is
   long : {text : List ℕ} {n : ℕ} {is : List ℕ} → TellsScript o z script text → Printed text was (Err n) is → Tried o z script room was (Err (Bytes n)) is
+
+-- how many bytes are told
+abbrev pub told_length : Told → ℕ
+told_length (Record n) = n
+told_length (NoCall n) = n

@@ -1,10 +1,11 @@
 // A whole trial.
-ghost use Rattle.std.specs.Prelude.{◌≡◌, ◌≤◌, length};
+ghost use Rattle.std.specs.Prelude.{◌≡◌, ◌≤◌, length, IfOk};
 ghost use Rattle.bench.specs.Sizes.{sizes};
 ghost use Rattle.pages.specs.Pages.{Printed, PrintedSome, SaysSome};
+ghost use Rattle.replays.specs.Replays.{kind_ops};
 ghost use Rattle.series.specs.Calls.{parts_length};
 ghost use Rattle.trials.specs.Records.{no_call_line};
-ghost use Rattle.trials.specs.Trials.{Tells, TellsScript, Tried, calls_limit};
+ghost use Rattle.trials.specs.Trials.{Tells, TellsScript, Tried, calls_limit, told_length};
 ghost use Rattle.trials.specs.Ready.{Ready};
 
 use super::answers::print_record;
@@ -15,9 +16,10 @@ use faults::Shown;
 use numerals::Decimal;
 use pages::{Page, Print};
 use records::{Cell, Node};
+use replays::Kind;
 use scripts::{NoCall, read_calls, write_frames};
 use series::{Answer, SeriesFault, perform};
-use weights::WeightKind;
+use weights::{Cost, Reach, WeightKind};
 
 // A script has at most this many calls.
 const CALLS: usize = 1_024;
@@ -98,7 +100,7 @@ fn tell_script<'a, K: WeightKind>(
 
 // Reads a script, performs its calls on a bench opened in the first four memories, and tells what came of them, or what is wrong.
 // The words are for the script's frames, for what the calls forward and for the table in force at the end.
-pub fn trial<K: WeightKind>(
+fn try_script<K: WeightKind>(
     script: &[u8],
     actions: &mut [Action],
     cells: &mut [Cell],
@@ -134,5 +136,26 @@ pub fn trial<K: WeightKind>(
     match told {
         Ok(size) => Ok(Told::Record(size)),
         Err(size) => Err(Short::Bytes(size)),
+    }
+}
+
+// The same on a bench of any kind of weights.
+pub fn trial(
+    kind: Kind,
+    script: &[u8],
+    actions: &mut [Action],
+    cells: &mut [Cell],
+    nodes: &mut [Node],
+    table: &mut [u32],
+    words: &mut [u32],
+    out: &mut [u8],
+) -> Result<Told, Short>
+    ensures tried { Tried (kind_ops kind) (sizes actions.old cells.old nodes.old table.old) script.now (length words.old) out.old result out.new }
+    ensures within { IfOk result (λ told. told_length told ≤ length out.old) }
+{
+    // A kind of weights is a type and no value: so the value picks the instance here.
+    match kind {
+        Kind::Reach => try_script::<Reach>(script, actions, cells, nodes, table, words, out),
+        Kind::Cost => try_script::<Cost>(script, actions, cells, nodes, table, words, out),
     }
 }
