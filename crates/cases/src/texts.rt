@@ -268,7 +268,7 @@ const REFUSED: [Refused; 26] = [
         },
     },
     Refused {
-        text: b"drop drop ",
+        text: b"drop drop @",
         room: 64,
         fault: Shown {
             number: 3,
@@ -331,7 +331,7 @@ const REFUSED: [Refused; 26] = [
         },
     },
     Refused {
-        text: b"",
+        text: b"@",
         room: 64,
         fault: Shown {
             number: 1,
@@ -439,7 +439,7 @@ const REFUSED: [Refused; 26] = [
         },
     },
     Refused {
-        text: b"pt",
+        text: b"pt@",
         room: 0,
         fault: Shown {
             number: 5,
@@ -448,7 +448,7 @@ const REFUSED: [Refused; 26] = [
         },
     },
     Refused {
-        text: b"(",
+        text: b"(@",
         room: 0,
         fault: Shown {
             number: 1,
