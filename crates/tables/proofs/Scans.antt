@@ -1,6 +1,7 @@
 -- Steps of the scans.
-use Rattle.std.proofs.Common.{◌≡◌, ℕ, suc, ◌+◌, ◌<◌, ◌≤◌, true, false, ◌&&◌, eqb, ◌⊎◌, List, [], ◌∷◌, length, take, drop, set, Decides, Option, nat_eq, unwrap_or, MatchOption, add-one, arith, sym, refl, ap, ◌∙◌, subst, inl, inr}
-use Rattle.std.specs.List.{HoldsAt, AllWithin, list_all, filter, fold}
+use Rattle.std.proofs.Common.{◌≡◌, ℕ, zero, suc, ◌<◌, ◌≤◌, true, false, ◌&&◌, eqb, ◌⊎◌, List, [], ◌∷◌, length, drop, set, Decides, Option, nat_eq, unwrap_or, MatchOption, add-one, arith, sym, refl, ap, ◌∙◌, subst, inl, inr}
+use Rattle.std.specs.List.{HoldsAt, AllWithin, list_all, filter, fold, slice_range}
+use Rattle.std.proofs.lemmas.List.{take_rest}
 use Rattle.std.specs.Cmp.Lexicographic.{pointwise, bytes_decides}
 use Rattle.tables.specs.Emits.{Sent}
 use Rattle.tables.specs.declared.forward.Emissions.{Emissions}
@@ -11,12 +12,12 @@ use Rattle.std.proofs.lemmas.Bool.Decides.{same_from_decides}
 use Rattle.std.proofs.lemmas.List.Recursion.{same_from_clauses}
 use Rattle.std.proofs.lemmas.Iterator.{index_from_first}
 use Rattle.std.proofs.lemmas.Slice.Eq.{compares_Decides}
-use Rattle.std.proofs.lemmas.Bool.{cases_Bool, and_from, lt-ltb, eq-eqb, ne_eqb, cond-true, cond-false, or_left, or_right, or_from, cond_both}
+use Rattle.std.proofs.lemmas.Bool.{cases_Bool, and_from, lt-ltb, le-ltb, eq-eqb, ne_eqb, cond-true, cond-false, or_left, or_right, or_from, cond_both}
 use Rattle.format.specs.Fields.{fields, range, LegalValue}
 use Rattle.weights.specs.Weights.{Ops}
 use Rattle.tables.specs.Emits.{same}
 use Rattle.format.specs.Words.{kind_of, field_of, value_of}
-use Rattle.tables.specs.Scans.{closes, body_length, word_holds, words_hold, put, rows_from, rows_in, sends, weight_in, sent_of}
+use Rattle.tables.specs.Scans.{closes, body_length, match_holds, matches_hold, counted, heads_past, put, sends, weight_in, sent_of}
 
 -- a row's emissions, given to the next call of a chain, yield what the row sends
 pub yields_sends : {s t : Emissions} → s ≡ t → YieldsList (YieldsFirstBy sent_of (λ e. sends e.row.now e.frame.values)) sent_of s (sends t.row.now t.frame.values)
@@ -40,8 +41,8 @@ pub body_within : (ws : List ℕ) → body_length ws ≤ length ws
 body_within [] = omega arith
 body_within (w ∷ ws) = cond_both (closes w) _ _ (λ x. x ≤ suc (length ws)) (λ e. omega arith) (λ e. omega (arith, body_within ws))
 
-pub all_hold : (ws s : List ℕ) → list_all (λ w. word_holds w s) ws ≡ words_hold ws s
-all_hold ws s = same_from_clauses (list_all (λ w. word_holds w s)) (λ x. words_hold x s) (λ w b. word_holds w s && b) refl (λ _ _. refl) (λ _ _. refl) ws
+pub all_hold : (ws s : List ℕ) → list_all (λ w. match_holds w s) ws ≡ matches_hold ws s
+all_hold ws s = same_from_clauses (list_all (λ w. match_holds w s)) (λ x. matches_hold x s) (λ w b. match_holds w s && b) refl (λ _ _. refl) (λ _ _. refl) ws
 
 pub same_decides : (s t : List ℕ) → Decides (same s t) (s ≡ t)
 same_decides s t = compares_Decides same (record { empty = refl; shorter = λ _ _. refl; longer = λ _ _. refl; heads = λ _ _ _ _. refl }) s t
@@ -52,32 +53,49 @@ put_some w f v s e i l m =
     let b : value_of w < range (field_of w) = subst (λ (x : ℕ). x < range (field_of w)) i (subst (λ (x : ℕ). LegalValue x v) e m) in
     cond-true _ _ _ (and_from _ _ (lt-ltb _ _ a) (lt-ltb _ _ b)) ∙ ap (λ x. set s x (value_of w)) (sym e) ∙ ap (set s f) (sym i)
 
--- behind a row the next begins, or there is none
-rows_skip : (b : List ℕ) → rows_from b ≡ rows_in (drop (body_length b) b)
-rows_skip [] = refl
-rows_skip (w ∷ b) = go (rows_skip b) (cases_Bool (eqb (kind_of w) 10)) (cases_Bool (eqb (kind_of w) 14))
-  where
-    go :
-        rows_from b ≡ rows_in (drop (body_length b) b) →
-        (eqb (kind_of w) 10 ≡ true) ⊎ (eqb (kind_of w) 10 ≡ false) →
-        (eqb (kind_of w) 14 ≡ true) ⊎ (eqb (kind_of w) 14 ≡ false) →
-        rows_from (w ∷ b) ≡ rows_in (drop (body_length (w ∷ b)) (w ∷ b))
-    go later (inl h) k = simp h
-    go later (inr h) (inl k) = simp (h, k)
-    go later (inr h) (inr k) = simp (h, k) later
+past_drop : (n : ℕ) (ws : List ℕ) → heads_past n ws ≡ heads_past 0 (drop n ws)
+past_drop zero ws = refl
+past_drop (suc n) [] = refl
+past_drop (suc n) (w ∷ ws) = past_drop n ws
 
-pub first_row :
+-- from a head on come its own words and those from each head past what it counts
+pub past_head :
+    (ws : List ℕ) (h : ℕ) (b later : List ℕ) (n : ℕ) →
+    ws ≡ h ∷ b →
+    eqb (kind_of h) 10 ≡ true →
+    n ≡ counted h →
+    n ≤ length b →
+    later ≡ slice_range b n (length b) →
+    heads_past 0 ws ≡ ws ∷ heads_past 0 later
+past_head ws h b later n e k c l d =
+    ap (heads_past 0) e ∙ cond-true _ _ _ k ∙ cond-false _ _ _ (le-ltb (length b) (counted h) (omega (arith, c, l))) ∙
+    ap (λ rs. (h ∷ b) ∷ rs) (ap (λ m. heads_past m b) (sym c) ∙ past_drop n b ∙ ap (heads_past 0) (sym (d ∙ take_rest b n))) ∙
+    ap (λ x. x ∷ heads_past 0 later) (sym e)
+
+-- a head that counts more than there is begins no row
+pub past_short :
     (ws : List ℕ) (h : ℕ) (b : List ℕ) →
     ws ≡ h ∷ b →
     eqb (kind_of h) 10 ≡ true →
-    rows_in ws ≡ take (1 + body_length b) ws ∷ rows_in (drop (1 + body_length b) ws)
-first_row ws h b e k =
-    let n : 1 + body_length b ≡ suc (body_length b) = omega arith in
-    let t : take (1 + body_length b) ws ≡ h ∷ take (body_length b) b = ap (take (1 + body_length b)) e ∙ ap (λ m. take m (h ∷ b)) n in
-    let d : drop (1 + body_length b) ws ≡ drop (body_length b) b = ap (drop (1 + body_length b)) e ∙ ap (λ m. drop m (h ∷ b)) n in
-    ap rows_in e ∙ cond-true _ _ _ k ∙ cond-true _ _ _ k ∙
-    ap (λ x. x ∷ rows_from b) (sym t) ∙
-    ap (λ rs. take (1 + body_length b) ws ∷ rs) (rows_skip b ∙ ap rows_in (sym d))
+    length b < counted h →
+    heads_past 0 ws ≡ []
+past_short ws h b e k l = ap (heads_past 0) e ∙ cond-true _ _ _ k ∙ cond-true _ _ _ (lt-ltb _ _ l)
+
+pub past_end :
+    (ws : List ℕ) (h : ℕ) (b : List ℕ) →
+    ws ≡ h ∷ b →
+    eqb (kind_of h) 10 ≡ false →
+    eqb (kind_of h) 14 ≡ true →
+    heads_past 0 ws ≡ []
+past_end ws h b e k l = ap (heads_past 0) e ∙ cond-false _ _ _ k ∙ cond-true _ _ _ l
+
+pub past_other :
+    (ws : List ℕ) (h : ℕ) (b : List ℕ) →
+    ws ≡ h ∷ b →
+    eqb (kind_of h) 10 ≡ false →
+    eqb (kind_of h) 14 ≡ false →
+    heads_past 0 ws ≡ heads_past 0 b
+past_other ws h b e k l = ap (heads_past 0) e ∙ cond-false _ _ _ k ∙ cond-false _ _ _ l
 
 pointwise_same : (s t : List ℕ) → pointwise nat_eq s t ≡ same s t
 pointwise_same s t = same_from_decides (pointwise nat_eq s t) (same s t) (bytes_decides s t) (same_decides s t)

@@ -1,5 +1,5 @@
 -- What a scan of words finds, whatever the words are.
-use Rattle.std.specs.Prelude.{◌≡◌, ℕ, suc, ◌*◌, ◌<◌, ◌≤◌, Bool, true, false, cond, ◌&&◌, ◌||◌, List, [], ◌∷◌, ◌++◌, map, length, take, drop, Some, None, Option, option_map, ◌==◌, nat_lt, slice_index, slice_set}
+use Rattle.std.specs.Prelude.{◌≡◌, ℕ, zero, suc, ◌+◌, ◌*◌, ◌%◌, ◌<◌, ◌≤◌, Bool, true, false, cond, ◌&&◌, ◌||◌, List, [], ◌∷◌, ◌++◌, map, length, take, drop, Some, None, Option, option_map, ◌==◌, nat_lt, slice_index, slice_set}
 use Rattle.std.specs.List.{flat_map}
 use Rattle.format.specs.Fields.{fields, range}
 use Rattle.format.specs.Words.{kind_of, field_of, value_of}
@@ -18,24 +18,37 @@ abbrev pub body_length : List ℕ → ℕ
 body_length [] = 0
 body_length (w ∷ ws) = cond (closes w) 0 (suc (body_length ws))
 
--- a match word holds of frame s, and so does every other word
-abbrev pub word_holds : ℕ → List ℕ → Bool
-word_holds w s = cond (kind_of w == 11) (slice_index s (field_of w) == value_of w) true
+-- a match word holds of frame s; the field of a match is below the number of fields
+abbrev pub match_holds : ℕ → List ℕ → Bool
+match_holds w s = slice_index s (field_of w % fields) == value_of w
 
--- every match word holds of frame s
-abbrev pub words_hold : List ℕ → List ℕ → Bool
-words_hold [] s = true
-words_hold (w ∷ ws) s = word_holds w s && words_hold ws s
+-- every one of these match words holds of frame s
+abbrev pub matches_hold : List ℕ → List ℕ → Bool
+matches_hold [] s = true
+matches_hold (w ∷ ws) s = match_holds w s && matches_hold ws s
 
--- the rows from the next head on, up to an end: each is a head and what stands before the next head or end
-abbrev pub rows_from : List ℕ → List (List ℕ)
-rows_from [] = []
-rows_from (w ∷ ws) = cond (kind_of w == 10) ((w ∷ take (body_length ws) ws) ∷ rows_from ws) (cond (kind_of w == 14) [] (rows_from ws))
+-- the matches that a head counts, behind it, hold of frame s
+abbrev pub row_holds : List ℕ → List ℕ → Bool
+row_holds [] s = false
+row_holds (w ∷ ws) s = matches_hold (take (field_of w) ws) s
 
--- the rows with which the words begin
-abbrev pub rows_in : List ℕ → List (List ℕ)
-rows_in [] = []
-rows_in (w ∷ ws) = cond (kind_of w == 10) (rows_from (w ∷ ws)) []
+-- the head with which words begin and what stands before the next head or end
+abbrev pub first_row : List ℕ → List ℕ
+first_row [] = []
+first_row (w ∷ ws) = w ∷ take (body_length ws) ws
+
+-- how many matches and weights a head counts
+abbrev pub counted : ℕ → ℕ
+counted w = field_of w + value_of w
+
+-- the words from each head on, up to an end: the first n words are passed over, and behind a head so many as it counts
+abbrev pub heads_past : ℕ → List ℕ → List (List ℕ)
+heads_past n [] = []
+heads_past (suc n) (w ∷ ws) = heads_past n ws
+heads_past zero (w ∷ ws) =
+    cond (kind_of w == 10)
+    (cond (nat_lt (length ws) (counted w)) [] ((w ∷ ws) ∷ heads_past (counted w) ws))
+    (cond (kind_of w == 14) [] (heads_past zero ws))
 
 -- frame s after one set word
 abbrev pub put : ℕ → List ℕ → List ℕ

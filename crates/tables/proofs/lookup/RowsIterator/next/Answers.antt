@@ -1,15 +1,16 @@
 use Rattle.std.proofs.Common.{◌≡◌, ◌∷◌, rules, sym, ◌∙◌}
-use Rattle.tables.specs.Scans.{rows_in}
-use Rattle.tables.proofs.Scans.{first_row}
+use Rattle.tables.specs.Scans.{heads_past}
+use Rattle.tables.proofs.Scans.{past_head}
 use Rattle.tables.proofs.lookup.RowsIterator.next.Goals as goal
 
-pub returns-clause-steps : goal.returns-clause-steps
-returns-clause-steps c =
-    let f = first_row c.args.self.now.words.now c.in_ok-head.head.now c.in_ok-head.body.now c.in_ok-head.ensures.cases.0 (sym c.marks.ensures ∙ c.if-not-marks.false) in
-    let b = c.body_length.ensures.0 in
-    cc
+pub returns-then-marks-clause-steps : goal.returns-then-marks-clause-steps
+returns-then-marks-clause-steps c =
+    let g = c.in_ok-self.ensures.lookup.0 in
+    sym c.loop-bits.invariant ∙
+    past_head c.loop-bits.self.words.now c.in-Some.bits.now c.in-Some.later.now c.in_ok-self.field-0.now c.counted.result
+    c.in-Some.ensures.cases.0 (sym c.marks.ensures ∙ c.if-marks.true) c.counted.ensures g.0 g.2
 
-pub returns-clause-goes : goal.returns-clause-goes
-returns-clause-goes c =
-    let e : rows_in c.args.self.now.words.now ≡ c.split_at.result.0.now ∷ rows_in c.split_at.result.1.now = returns-clause-steps c in
+pub returns-then-marks-clause-goes : goal.returns-then-marks-clause-goes
+returns-then-marks-clause-goes c =
+    let e : heads_past 0 c.args.self.now.words.now ≡ c.loop-bits.self.words.now ∷ heads_past 0 c.in_ok-self.field-0.now = returns-then-marks-clause-steps c in
     search rules
