@@ -12,7 +12,7 @@ use Rattle.std.proofs.lemmas.Bool.Decides.{same_from_decides}
 use Rattle.std.proofs.lemmas.List.Recursion.{same_from_clauses}
 use Rattle.std.proofs.lemmas.Iterator.{index_from_first}
 use Rattle.std.proofs.lemmas.Slice.Eq.{compares_Decides}
-use Rattle.std.proofs.lemmas.Bool.{cases_Bool, and_from, lt-ltb, le-ltb, eq-eqb, ne_eqb, cond-true, cond-false, or_left, or_right, or_from, cond_both}
+use Rattle.std.proofs.lemmas.Bool.{cases_Bool, and_from, lt-ltb, le-ltb, eq-eqb, ne_eqb, cond-true, cond-false, or_left, or_right, or_from, or_parts, cond_both}
 use Rattle.format.specs.Fields.{fields, range, LegalValue}
 use Rattle.weights.specs.Weights.{Ops}
 use Rattle.tables.specs.Emits.{same}
@@ -96,6 +96,22 @@ pub past_other :
     eqb (kind_of h) 14 ≡ false →
     heads_past 0 ws ≡ heads_past 0 b
 past_other ws h b e k l = ap (heads_past 0) e ∙ cond-false _ _ _ k ∙ cond-false _ _ _ l
+
+-- no row begins before the next head or end
+past_body : (ws : List ℕ) → heads_past 0 ws ≡ heads_past 0 (drop (body_length ws) ws)
+past_body [] = refl
+past_body (w ∷ ws) =
+    cond_both (closes w) 0 (suc (body_length ws)) (λ n. heads_past 0 (w ∷ ws) ≡ heads_past 0 (drop n (w ∷ ws))) (λ e. refl)
+    (λ e. let p = or_parts (eqb (kind_of w) 10) (eqb (kind_of w) 14) e in past_other (w ∷ ws) w ws refl p.0 p.1 ∙ past_body ws)
+
+pub past_next :
+    (ws : List ℕ) (h : ℕ) (b later : List ℕ) →
+    ws ≡ h ∷ b →
+    eqb (kind_of h) 10 ≡ false →
+    eqb (kind_of h) 14 ≡ false →
+    later ≡ drop (body_length b) b →
+    heads_past 0 ws ≡ heads_past 0 later
+past_next ws h b later e k l d = past_other ws h b e k l ∙ past_body b ∙ ap (heads_past 0) (sym d)
 
 pointwise_same : (s t : List ℕ) → pointwise nat_eq s t ≡ same s t
 pointwise_same s t = same_from_decides (pointwise nat_eq s t) (same s t) (bytes_decides s t) (same_decides s t)

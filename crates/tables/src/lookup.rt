@@ -1,5 +1,5 @@
 // The row that decides for a frame.
-ghost use Rattle.std.specs.Prelude.{◌≡◌, ◌≤◌, false, length, take, MatchOption};
+ghost use Rattle.std.specs.Prelude.{◌≡◌, ◌≤◌, false, length, take, drop, MatchOption};
 ghost use Rattle.std.specs.Iterator.{YieldsFirstRef, item_count};
 ghost use Rattle.std.specs.List.{AllByRecursion};
 ghost use Rattle.tables.specs.Rows.{OfItsRows};
@@ -29,6 +29,14 @@ fn body_length(words: &[u32]) -> usize
         .iter()
         .position(|bits| closes_row(*bits))
         .unwrap_or(words.len())
+}
+
+// The words from the next head or end on.
+fn from_next(words: &[u32]) -> &[u32]
+    ensures next { result.now ≡ drop (body_length words.now) words.now }
+    ensures shorter { length result.now ≤ length words.now }
+{
+    &words[body_length(words)..]
 }
 
 // Whether a match holds of a frame. The field of a match is one of the frame's, so the remainder is the field itself: it
@@ -83,7 +91,7 @@ fn counted(head: u32) -> usize
 }
 
 // The rows with which words begin, each as the words from its head on. What a head counts is passed over at once, since
-// the next head comes no earlier; only then is each word looked at.
+// the next head comes no earlier; only where none stands there, behind sets, is each word looked at.
 #[derive(Drop)]
 struct Rows<'a> {
     words: &'a [u32],
@@ -106,7 +114,7 @@ impl<'a> Iterator for Rows<'a> {
             if TableKind::End.marks(*bits) {
                 return None;
             }
-            self.words = later;
+            self.words = from_next(later);
         }
         None
     }
