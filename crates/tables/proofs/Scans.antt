@@ -18,10 +18,6 @@ use Rattle.tables.specs.Emits.{same}
 use Rattle.format.specs.Words.{kind_of, field_of, value_of}
 use Rattle.tables.specs.Scans.{closes, body_length, word_holds, words_hold, put, rows_from, rows_in, sends, weight_in, sent_of}
 
--- a row's emissions, given to the next call of a chain, yield what the row sends
-pub yields_sends : {s t : Emissions} → s ≡ t → YieldsList (YieldsFirstBy sent_of (λ e. sends e.row.now e.frame.values)) sent_of s (sends t.row.now t.frame.values)
-yields_sends e = YieldsList-at e (YieldsList-from_first sent_of (λ e. sends e.row.now e.frame.values) _ refl)
-
 pub closes_by : (w k : ℕ) → k ≡ kind_of w → (k ≡ 10) ⊎ (k ≡ 14) → closes w ≡ true
 closes_by w k e (inl h) = or_left _ _ (eq-eqb (kind_of w) 10 (sym e ∙ h))
 closes_by w k e (inr h) = or_right _ _ (eq-eqb (kind_of w) 14 (sym e ∙ h))
@@ -78,17 +74,3 @@ first_row ws h b e k =
     ap rows_in e ∙ cond-true _ _ _ k ∙ cond-true _ _ _ k ∙
     ap (λ x. x ∷ rows_from b) (sym t) ∙
     ap (λ rs. take (1 + body_length b) ws ∷ rs) (rows_skip b ∙ ap rows_in (sym d))
-
-pointwise_same : (s t : List ℕ) → pointwise nat_eq s t ≡ same s t
-pointwise_same s t = same_from_decides (pointwise nat_eq s t) (same s t) (bytes_decides s t) (same_decides s t)
-
-pub joined_weight : (o : Ops) (t : List ℕ) (a : ℕ) (xs : List Sent) → weight_in o t a xs ≡ fold (λ a x. o.join a x.weight) a (filter (λ x. pointwise nat_eq x.frame t) xs)
-joined_weight o t a [] = refl
-joined_weight o t a (x ∷ xs) = go (λ a. joined_weight o t a xs) (cases_Bool (same x.frame t))
-  where
-    go :
-        ((a : ℕ) → weight_in o t a xs ≡ fold (λ a x. o.join a x.weight) a (filter (λ x. pointwise nat_eq x.frame t) xs)) →
-        (same x.frame t ≡ true) ⊎ (same x.frame t ≡ false) →
-        weight_in o t a (x ∷ xs) ≡ fold (λ a x. o.join a x.weight) a (filter (λ x. pointwise nat_eq x.frame t) (x ∷ xs))
-    go later (inl h) = simp (pointwise_same x.frame t, h) (later (o.join a x.weight))
-    go later (inr h) = simp (pointwise_same x.frame t, h) (later a)

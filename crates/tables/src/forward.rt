@@ -1,11 +1,11 @@
 // Frames forwarded through a checked table.
-ghost use Rattle.std.specs.Prelude.{◌≡◌, ◌+◌, ◌≤◌, ◌++◌, length, drop, replicate, ◌<◌, IfOk, MatchResult, OnErr};
+ghost use Rattle.std.specs.Prelude.{◌≡◌, ◌+◌, ◌≤◌, List, [], ◌∷◌, ◌++◌, option_map, length, drop, replicate, ◌<◌, IfOk, MatchResult, OnErr};
 ghost use Rattle.std.specs.Iterator.{YieldsFirstBy, item_count};
 ghost use Rattle.format.specs.Words.{value_of};
 ghost use Rattle.tables.specs.Rows.{OfItsRows};
 ghost use Rattle.faults.specs.declared.layers.FrameFault.TheVariants.{NoRoom};
-ghost use Rattle.tables.specs.Emits.{sent_length, sent_words};
-ghost use Rattle.tables.specs.Scans.{RowSent, RowFull, applied as applied_to, sends, weight_in, Next, above, values_of, sent_of};
+ghost use Rattle.tables.specs.Emits.{Sent as SentAt, sent_length, sent_words};
+ghost use Rattle.tables.specs.Scans.{RowSent, RowFull, applied as applied_to, sends, NextSent, above, values_of, sent_of};
 ghost use Rattle.tables.specs.Forwards.{Answered, Refused};
 
 use super::check::CheckedTable;
@@ -14,6 +14,7 @@ use super::word::TableWord;
 use faults::{FrameFault, zeros_if_refused};
 use format::{Setting, VALUE_END, Word};
 use frames::{Frame, WIDTH};
+use std::cmp::Ordering;
 use weights::WeightKind;
 
 // An emitted frame has a weight word and a word for each field.
@@ -72,21 +73,38 @@ impl Iterator for Emissions<'_> {
 }
 
 impl Emissions<'_> {
-    // The joined weight at which a frame is sent.
-    fn weight_of<K: WeightKind>(self, target: Frame) -> u32
-        ensures { result ≡ weight_in K.WeightKind.ops target.values K.WeightKind.ops.zero (sends self.entry.row.now self.entry.frame.values) }
+    // The least frame that is sent and comes after the last one, with the joined weight at which it is sent. One scan finds
+    // both, since each frame that a row sends is made anew.
+    fn next_after<K: WeightKind>(self, last: Option<Frame>) -> Option<Sent>
+        ensures { NextSent K.WeightKind.ops (values_of last) (sends self.entry.row.now self.entry.frame.values) (option_map sent_of result) }
     {
-        self.filter(|sent| sent.frame == target)
-            .fold(K::zero(), |weight, sent| K::join(weight, sent.weight))
+        let mut best = None;
+        for sent in self {
+            best = better::<K>(best, last, sent);
+        }
+        best
     }
+}
 
-    // The least frame that is sent and comes after the last one.
-    fn next_after(self, last: Option<Frame>) -> Option<Frame>
-        ensures { Next (values_of last) (sends self.entry.row.now self.entry.frame.values) (values_of result) }
-    {
-        self.map(|sent| sent.frame)
-            .filter(|sent| comes_after(sent, last))
-            .min()
+// The best of a scan, once one more frame is sent: an equal frame joins its weight, a lesser one that comes after the last
+// takes its place.
+fn better<K: WeightKind>(best: Option<Sent>, last: Option<Frame>, sent: Sent) -> Option<Sent>
+    ensures { (xs : List SentAt) → NextSent K.WeightKind.ops (values_of last) xs (option_map sent_of best) → NextSent K.WeightKind.ops (values_of last) (xs ++ (sent_of sent ∷ [])) (option_map sent_of result) }
+{
+    let first = Sent {
+        frame: sent.frame,
+        weight: K::join(K::zero(), sent.weight),
+    };
+    let Some(best) = best else {
+        return comes_after(&sent.frame, last).then_some(first);
+    };
+    match sent.frame.cmp(&best.frame) {
+        Ordering::Less if comes_after(&sent.frame, last) => Some(first),
+        Ordering::Equal => Some(Sent {
+            frame: best.frame,
+            weight: K::join(best.weight, sent.weight),
+        }),
+        Ordering::Less | Ordering::Greater => Some(best),
     }
 }
 
@@ -129,11 +147,10 @@ fn send_all<K: WeightKind>(emissions: Emissions<'_>, out: &mut [u32]) -> Result<
     // counted and the last frame is kept here.
     let mut count = 0;
     let mut last = None;
-    while let Some(next) = emissions.next_after(last) {
-        let words = sent_words(emissions.weight_of::<K>(next), &next);
-        put(words, &mut out[count..])?;
+    while let Some(next) = emissions.next_after::<K>(last) {
+        put(sent_words(next.weight, &next.frame), &mut out[count..])?;
         count += SENT_WORDS;
-        last = Some(next);
+        last = Some(next.frame);
     }
     Ok(count)
 }
