@@ -1,13 +1,11 @@
 -- The best frame of a scan: what is seen of it once one more frame is sent.
-use Rattle.std.proofs.Common.{◌≡◌, ℕ, Bool, true, false, cond, ◌⊎◌, List, [], ◌∷◌, ◌++◌, map, Some, None, Option, option_map, sym, refl, ap, ◌∙◌, subst, inl, inr, append_assoc}
-use Rattle.std.specs.Bool.{then_some}
+use Rattle.std.proofs.Common.{◌≡◌, ℕ, true, false, cond, ◌⊎◌, List, [], ◌∷◌, ◌++◌, map, Some, None, Option, sym, refl, ap, ◌∙◌, subst, inl, inr, append_assoc}
 use Rattle.std.proofs.lemmas.List.{append-nil}
 use Rattle.std.proofs.lemmas.Bool.{cases_Bool, true≢false, cond-true, cond-false}
 use Rattle.frames.specs.Frames.{before}
 use Rattle.weights.specs.Weights.{Ops}
-use Rattle.tables.specs.declared.forward.Sent.{Sent as SentFrame}
 use Rattle.tables.specs.Emits.{Sent, same, In}
-use Rattle.tables.specs.Scans.{weight_in, above, IsNext, NextSent, sent_of}
+use Rattle.tables.specs.Scans.{weight_in, above, IsNext, NextSent}
 use Rattle.tables.proofs.Scans.{same_decides}
 use Rattle.tables.proofs.Order.{frames_of, before_ranks, irreflexive, asymmetric}
 use Rattle.tables.proofs.Listed.{in_left, in_push, in_push_cases, frames_push}
@@ -32,7 +30,7 @@ in_more : (xs : List Sent) (x : Sent) (u : List ℕ) → In u (frames_of (xs ++ 
 in_more xs x u i = in_push_cases u x.frame (frames_of xs) (subst (In u) (frames_push xs x) i)
 
 -- nothing comes after the last one yet
-still_none :
+pub still_none :
     (o : Ops) (last : Option (List ℕ)) (xs : List Sent) (x : Sent) →
     NextSent o last xs None →
     above last x.frame ≡ false →
@@ -41,13 +39,12 @@ still_none o last xs x n h = λ u i. elim (in_more xs x u i) [ inl m ↦ n u m |
 
 -- a frame not sent before, and before none that comes after the last one
 taken :
-    (o : Ops) (last : Option (List ℕ)) (xs : List Sent) (x : Sent) (w : ℕ) →
-    w ≡ o.join o.zero x.weight →
+    (o : Ops) (last : Option (List ℕ)) (xs : List Sent) (x : Sent) →
     (In x.frame (frames_of xs) → ⊥) →
     ((u : List ℕ) → In u (frames_of xs) → above last u ≡ true → before u x.frame ≡ false) →
     above last x.frame ≡ true →
-    NextSent o last (xs ++ (x ∷ [])) (Some (record { frame = x.frame; weight = w }))
-taken o last xs x w v new f h = (
+    NextSent o last (xs ++ (x ∷ [])) (Some (record { frame = x.frame; weight = o.join o.zero x.weight }))
+taken o last xs x new f h = (
   record {
     sent = subst (In x.frame) (sym (frames_push xs x)) (in_push x.frame (frames_of xs));
     after = h;
@@ -56,30 +53,26 @@ taken o last xs x w v new f h = (
       | inr e ↦ subst (λ (y : List ℕ). before y x.frame ≡ false) (sym e) (irreflexive x.frame)
     ];
   },
-  v ∙ sym (weight_push o x.frame o.zero xs x ∙ cond-true _ _ _ ((same_decides x.frame x.frame).1 refl) ∙
+  sym (weight_push o x.frame o.zero xs x ∙ cond-true _ _ _ ((same_decides x.frame x.frame).1 refl) ∙
       ap (λ a. o.join a x.weight) (weight_none o x.frame o.zero xs new)),
 )
 
--- the first that comes after the last one
-pub begun :
-    (o : Ops) (last : Option (List ℕ)) (xs : List Sent) (s : SentFrame) (w : ℕ) (b : Bool) →
+pub taken_first :
+    (o : Ops) (last : Option (List ℕ)) (xs : List Sent) (x : Sent) →
     NextSent o last xs None →
-    w ≡ o.join o.zero s.weight →
-    b ≡ above last s.frame.values →
-    NextSent o last (xs ++ (sent_of s ∷ [])) (option_map sent_of (then_some b (record { frame = s.frame; weight = w })))
-begun o last xs s w true n v a =
-    taken o last xs (sent_of s) w v (λ m. true≢false (a ∙ n s.frame.values m)) (λ u m i. absurd (true≢false (sym i ∙ n u m))) (sym a)
-begun o last xs s w false n v a = still_none o last xs (sent_of s) n (sym a)
+    above last x.frame ≡ true →
+    NextSent o last (xs ++ (x ∷ [])) (Some (record { frame = x.frame; weight = o.join o.zero x.weight }))
+taken_first o last xs x n h =
+    taken o last xs x (λ m. true≢false (sym h ∙ n x.frame m)) (λ u m i. absurd (true≢false (sym i ∙ n u m))) h
 
 pub taken_lesser :
-    (o : Ops) (last : Option (List ℕ)) (xs : List Sent) (b x : Sent) (w : ℕ) →
+    (o : Ops) (last : Option (List ℕ)) (xs : List Sent) (b x : Sent) →
     NextSent o last xs (Some b) →
-    w ≡ o.join o.zero x.weight →
     before x.frame b.frame ≡ true →
     above last x.frame ≡ true →
-    NextSent o last (xs ++ (x ∷ [])) (Some (record { frame = x.frame; weight = w }))
-taken_lesser o last xs b x w n v l h =
-    taken o last xs x w v
+    NextSent o last (xs ++ (x ∷ [])) (Some (record { frame = x.frame; weight = o.join o.zero x.weight }))
+taken_lesser o last xs b x n l h =
+    taken o last xs x
     (λ m. true≢false (sym l ∙ n.0.least x.frame m h))
     (λ u m a. before_ranks.chain u b.frame x.frame (n.0.least u m a) (asymmetric x.frame b.frame l))
     h

@@ -20,7 +20,7 @@ abbrev pub frames_of : List Sent → List (List ℕ)
 frames_of xs = map (λ x. x.frame) xs
 
 -- what comparing two lists of values says
-lt_before : (s t : List ℕ) → is_lt (slice_cmp nat_cmp s t) ≡ before s t
+pub lt_before : (s t : List ℕ) → is_lt (slice_cmp nat_cmp s t) ≡ before s t
 lt_before s t = same_from_slice_cmp nat_cmp is_lt before refl (λ _ _. refl) (λ _ _. refl) (λ x y xs ys o h. grind (arith, nat_tests)) s t _ refl
 
 gt_before : (s t : List ℕ) → is_gt (slice_cmp nat_cmp s t) ≡ before t s

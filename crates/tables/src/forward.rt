@@ -80,39 +80,51 @@ impl Emissions<'_> {
     {
         let mut best = None;
         for sent in self {
-            best = better::<K>(best, last, sent);
+            take_in::<K>(&mut best, last.as_ref(), &sent);
         }
         best
     }
 }
 
-// The best of a scan, once one more frame is sent: an equal frame joins its weight, a lesser one that comes after the last
-// takes its place.
-fn better<K: WeightKind>(best: Option<Sent>, last: Option<Frame>, sent: Sent) -> Option<Sent>
-    ensures { (xs : List SentAt) → NextSent K.WeightKind.ops (values_of last) xs (option_map sent_of best) → NextSent K.WeightKind.ops (values_of last) (xs ++ (sent_of sent ∷ [])) (option_map sent_of result) }
+// Whether a frame comes after the last one, if there is one.
+#[tactic(auto, using(crate::proofs::Order::lt_before))]
+fn comes_after(frame: &Frame, last: Option<&Frame>) -> bool
+    ensures { result ≡ above (option_map (λ s. s.now.values) last.entry) frame.now.values }
 {
-    let first = Sent {
-        frame: sent.frame,
-        weight: K::join(K::zero(), sent.weight),
-    };
-    let Some(best) = best else {
-        return comes_after(&sent.frame, last).then_some(first);
-    };
-    match sent.frame.cmp(&best.frame) {
-        Ordering::Less if comes_after(&sent.frame, last) => Some(first),
-        Ordering::Equal => Some(Sent {
-            frame: best.frame,
-            weight: K::join(best.weight, sent.weight),
-        }),
-        Ordering::Less | Ordering::Greater => Some(best),
+    last.is_none_or(|last| last.cmp(frame).is_lt())
+}
+
+// Takes one more frame that is sent into the best of a scan: an equal frame joins its weight, a lesser one that comes after
+// the last takes its place.
+fn take_in<K: WeightKind>(best: &mut Option<Sent>, last: Option<&Frame>, sent: &Sent)
+    ensures { (xs : List SentAt) → NextSent K.WeightKind.ops (option_map (λ s. s.now.values) last.entry) xs (option_map sent_of best.old) → NextSent K.WeightKind.ops (option_map (λ s. s.now.values) last.entry) (xs ++ (sent_of sent.now ∷ [])) (option_map sent_of best.new) }
+{
+    match best {
+        None => {
+            if comes_after(&sent.frame, last) {
+                *best = Some(first::<K>(sent));
+            }
+        }
+        Some(found) => match sent.frame.cmp(&found.frame) {
+            Ordering::Less => {
+                if comes_after(&sent.frame, last) {
+                    *found = first::<K>(sent);
+                }
+            }
+            Ordering::Equal => found.weight = K::join(found.weight, sent.weight),
+            Ordering::Greater => {}
+        },
     }
 }
 
-// Whether a frame comes after the last one, if there is one.
-fn comes_after(frame: &Frame, last: Option<Frame>) -> bool
-    ensures { result ≡ above (values_of last) frame.now.values }
+// A frame that is sent for the first time.
+fn first<K: WeightKind>(sent: &Sent) -> Sent
+    ensures { sent_of result ≡ record { frame = sent.now.frame.values; weight = K.WeightKind.ops.join K.WeightKind.ops.zero sent.now.weight } }
 {
-    last.is_none_or(|last| last.before(frame))
+    Sent {
+        frame: sent.frame,
+        weight: K::join(K::zero(), sent.weight),
+    }
 }
 
 // An emitted frame in words: a weight word and the frame's words.
