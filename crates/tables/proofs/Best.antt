@@ -29,13 +29,45 @@ weight_push o t a (y ∷ xs) x = weight_push o t (cond (same y.frame t) (o.join 
 in_more : (xs : List Sent) (x : Sent) (u : List ℕ) → In u (frames_of (xs ++ (x ∷ []))) → In u (frames_of xs) ⊎ (u ≡ x.frame)
 in_more xs x u i = in_push_cases u x.frame (frames_of xs) (subst (In u) (frames_push xs x) i)
 
--- nothing comes after the last one yet
-pub still_none :
-    (o : Ops) (last : Option (List ℕ)) (xs : List Sent) (x : Sent) →
-    NextSent o last xs None →
+-- the frame of the best stays
+kept :
+    (o : Ops) (last : Option (List ℕ)) (xs : List Sent) (b x : Sent) →
+    NextSent o last xs (Some b) →
+    (above last x.frame ≡ true → before x.frame b.frame ≡ false) →
+    IsNext last (xs ++ (x ∷ [])) b.frame
+kept o last xs b x n h =
+    record {
+      sent = subst (In b.frame) (sym (frames_push xs x)) (in_left b.frame (frames_of xs) (x.frame ∷ []) n.0.sent);
+      after = n.0.after;
+      least = λ u i a. elim (in_more xs x u i) [
+        | inl m ↦ n.0.least u m a
+        | inr e ↦ subst (λ (y : List ℕ). before y b.frame ≡ false) (sym e) (h (sym (ap (above last) e) ∙ a))
+      ];
+    }
+
+pub passed :
+    (o : Ops) (last : Option (List ℕ)) (xs : List Sent) (b x : Sent) →
+    NextSent o last xs (Some b) →
+    (above last x.frame ≡ true → before x.frame b.frame ≡ false) →
+    same x.frame b.frame ≡ false →
+    NextSent o last (xs ++ (x ∷ [])) (Some b)
+passed o last xs b x n h e = (
+  kept o last xs b x n h,
+  n.1 ∙ sym (weight_push o b.frame o.zero xs x ∙ cond-false _ _ _ e),
+)
+
+-- a frame that does not come after the last one changes nothing
+pub skipped :
+    (o : Ops) (last : Option (List ℕ)) (xs : List Sent) (x : Sent) (r : Option Sent) →
+    NextSent o last xs r →
     above last x.frame ≡ false →
-    NextSent o last (xs ++ (x ∷ [])) None
-still_none o last xs x n h = λ u i. elim (in_more xs x u i) [ inl m ↦ n u m | inr e ↦ ap (above last) e ∙ h ]
+    NextSent o last (xs ++ (x ∷ [])) r
+skipped o last xs x None n h = λ u i. elim (in_more xs x u i) [ inl m ↦ n u m | inr e ↦ ap (above last) e ∙ h ]
+skipped o last xs x (Some b) n h =
+    passed o last xs b x n (λ a. absurd (true≢false (sym a ∙ h))) (elim (cases_Bool (same x.frame b.frame)) [
+      | inl e ↦ absurd (true≢false (sym n.0.after ∙ ap (above last) (sym ((same_decides x.frame b.frame).0 e)) ∙ h))
+      | inr e ↦ e
+    ])
 
 -- a frame not sent before, and before none that comes after the last one
 taken :
@@ -76,33 +108,6 @@ taken_lesser o last xs b x n l h =
     (λ m. true≢false (sym l ∙ n.0.least x.frame m h))
     (λ u m a. before_ranks.chain u b.frame x.frame (n.0.least u m a) (asymmetric x.frame b.frame l))
     h
-
--- the frame of the best stays
-kept :
-    (o : Ops) (last : Option (List ℕ)) (xs : List Sent) (b x : Sent) →
-    NextSent o last xs (Some b) →
-    (above last x.frame ≡ true → before x.frame b.frame ≡ false) →
-    IsNext last (xs ++ (x ∷ [])) b.frame
-kept o last xs b x n h =
-    record {
-      sent = subst (In b.frame) (sym (frames_push xs x)) (in_left b.frame (frames_of xs) (x.frame ∷ []) n.0.sent);
-      after = n.0.after;
-      least = λ u i a. elim (in_more xs x u i) [
-        | inl m ↦ n.0.least u m a
-        | inr e ↦ subst (λ (y : List ℕ). before y b.frame ≡ false) (sym e) (h (sym (ap (above last) e) ∙ a))
-      ];
-    }
-
-pub passed :
-    (o : Ops) (last : Option (List ℕ)) (xs : List Sent) (b x : Sent) →
-    NextSent o last xs (Some b) →
-    (above last x.frame ≡ true → before x.frame b.frame ≡ false) →
-    same x.frame b.frame ≡ false →
-    NextSent o last (xs ++ (x ∷ [])) (Some b)
-passed o last xs b x n h e = (
-  kept o last xs b x n h,
-  n.1 ∙ sym (weight_push o b.frame o.zero xs x ∙ cond-false _ _ _ e),
-)
 
 pub joined :
     (o : Ops) (last : Option (List ℕ)) (xs : List Sent) (b x : Sent) (w : ℕ) →

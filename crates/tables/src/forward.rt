@@ -24,17 +24,18 @@ pub const SENT_WORDS: usize = 1 + WIDTH;
 fn applied(words: &[u32], frame: Frame) -> Frame
     ensures { result.values ≡ applied_to words.now frame.values }
 {
-    let mut sent = frame;
+    // The values are changed where they stand: a `Frame::with` for each word copies the frame each time.
+    let mut values = frame.values;
     for bits in words {
         if !TableKind::Set.marks(*bits) {
-            return sent;
+            return Frame { values };
         }
         let word = Word::from(*bits);
         if let Some(setting) = Setting::new(word.field, word.value) {
-            sent = sent.with(setting);
+            values[setting.field as usize] = setting.value;
         }
     }
-    sent
+    Frame { values }
 }
 
 // A frame that a row sends on, and its weight.
@@ -99,18 +100,13 @@ fn comes_after(frame: &Frame, last: Option<&Frame>) -> bool
 fn take_in<K: WeightKind>(best: &mut Option<Sent>, last: Option<&Frame>, sent: &Sent)
     ensures { (xs : List SentAt) → NextSent K.WeightKind.ops (option_map (λ s. s.now.values) last.entry) xs (option_map sent_of best.old) → NextSent K.WeightKind.ops (option_map (λ s. s.now.values) last.entry) (xs ++ (sent_of sent.now ∷ [])) (option_map sent_of best.new) }
 {
+    if !comes_after(&sent.frame, last) {
+        return;
+    }
     match best {
-        None => {
-            if comes_after(&sent.frame, last) {
-                *best = Some(first::<K>(sent));
-            }
-        }
+        None => *best = Some(first::<K>(sent)),
         Some(found) => match sent.frame.cmp(&found.frame) {
-            Ordering::Less => {
-                if comes_after(&sent.frame, last) {
-                    *found = first::<K>(sent);
-                }
-            }
+            Ordering::Less => *found = first::<K>(sent),
             Ordering::Equal => found.weight = K::join(found.weight, sent.weight),
             Ordering::Greater => {}
         },
