@@ -6,5 +6,6 @@ pub mod Scans
 pub mod Rows
 pub mod Order
 pub mod Listed
+pub mod Best
 pub mod Puts
 pub mod Answers

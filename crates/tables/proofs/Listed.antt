@@ -28,11 +28,11 @@ in_left x [] ys i = elim i [ ]
 in_left x (y ∷ xs) ys (inl e) = inl e
 in_left x (y ∷ xs) ys (inr m) = inr (in_left x xs ys m)
 
-in_push : {X : Type 0} (x : X) (xs : List X) → In x (xs ++ (x ∷ []))
+pub in_push : {X : Type 0} (x : X) (xs : List X) → In x (xs ++ (x ∷ []))
 in_push x [] = inl refl
 in_push x (y ∷ xs) = inr (in_push x xs)
 
-in_push_cases : {X : Type 0} (x y : X) (xs : List X) → In x (xs ++ (y ∷ [])) → In x xs ⊎ (x ≡ y)
+pub in_push_cases : {X : Type 0} (x y : X) (xs : List X) → In x (xs ++ (y ∷ [])) → In x xs ⊎ (x ≡ y)
 in_push_cases x y [] (inl e) = inr e
 in_push_cases x y [] (inr m) = elim m [ ]
 in_push_cases x y (z ∷ xs) (inl e) = inl (inl e)
@@ -45,7 +45,7 @@ ascending_push (s ∷ ss) t a h = (
   ascending_push ss t a.1 (λ u i. h u (inr i)),
 )
 
-frames_push : (xs : List Sent) (x : Sent) → frames_of (xs ++ (x ∷ [])) ≡ frames_of xs ++ (x.frame ∷ [])
+pub frames_push : (xs : List Sent) (x : Sent) → frames_of (xs ++ (x ∷ [])) ≡ frames_of xs ++ (x.frame ∷ [])
 frames_push xs x = map-append (λ (y : Sent). y.frame) xs (x ∷ [])
 
 joined_push : (xs : List Sent) (x : Sent) → flat_map sent_words (xs ++ (x ∷ [])) ≡ flat_map sent_words xs ++ sent_words x

@@ -19,10 +19,6 @@ use Rattle.tables.specs.Emits.{same}
 use Rattle.format.specs.Words.{kind_of, field_of, value_of}
 use Rattle.tables.specs.Scans.{closes, body_length, match_holds, matches_hold, counted, heads_past, put, sends, weight_in, sent_of}
 
--- a row's emissions, given to the next call of a chain, yield what the row sends
-pub yields_sends : {s t : Emissions} → s ≡ t → YieldsList (YieldsFirstBy sent_of (λ e. sends e.row.now e.frame.values)) sent_of s (sends t.row.now t.frame.values)
-yields_sends e = YieldsList-at e (YieldsList-from_first sent_of (λ e. sends e.row.now e.frame.values) _ refl)
-
 pub closes_by : (w k : ℕ) → k ≡ kind_of w → (k ≡ 10) ⊎ (k ≡ 14) → closes w ≡ true
 closes_by w k e (inl h) = or_left _ _ (eq-eqb (kind_of w) 10 (sym e ∙ h))
 closes_by w k e (inr h) = or_right _ _ (eq-eqb (kind_of w) 14 (sym e ∙ h))
@@ -112,17 +108,3 @@ pub past_next :
     later ≡ drop (body_length b) b →
     heads_past 0 ws ≡ heads_past 0 later
 past_next ws h b later e k l d = past_other ws h b e k l ∙ past_body b ∙ ap (heads_past 0) (sym d)
-
-pointwise_same : (s t : List ℕ) → pointwise nat_eq s t ≡ same s t
-pointwise_same s t = same_from_decides (pointwise nat_eq s t) (same s t) (bytes_decides s t) (same_decides s t)
-
-pub joined_weight : (o : Ops) (t : List ℕ) (a : ℕ) (xs : List Sent) → weight_in o t a xs ≡ fold (λ a x. o.join a x.weight) a (filter (λ x. pointwise nat_eq x.frame t) xs)
-joined_weight o t a [] = refl
-joined_weight o t a (x ∷ xs) = go (λ a. joined_weight o t a xs) (cases_Bool (same x.frame t))
-  where
-    go :
-        ((a : ℕ) → weight_in o t a xs ≡ fold (λ a x. o.join a x.weight) a (filter (λ x. pointwise nat_eq x.frame t) xs)) →
-        (same x.frame t ≡ true) ⊎ (same x.frame t ≡ false) →
-        weight_in o t a (x ∷ xs) ≡ fold (λ a x. o.join a x.weight) a (filter (λ x. pointwise nat_eq x.frame t) (x ∷ xs))
-    go later (inl h) = simp (pointwise_same x.frame t, h) (later (o.join a x.weight))
-    go later (inr h) = simp (pointwise_same x.frame t, h) (later a)

@@ -84,6 +84,11 @@ abbrev pub Next : Option (List ℕ) → List Sent → Option (List ℕ) → Type
 Next last xs None = (t : List ℕ) → In t (map (λ x. x.frame) xs) → above last t ≡ false
 Next last xs (Some t) = IsNext last xs t
 
+-- the least frame sent that comes after the last one, with its joined weight, or none where none does
+abbrev pub NextSent : Ops → Option (List ℕ) → List Sent → Option Sent → Type 0
+NextSent o last xs None = Next last xs None
+NextSent o last xs (Some x) = Next last xs (Some x.frame) × (x.weight ≡ weight_in o x.frame o.zero xs)
+
 abbrev pub values_of : Option Frame → Option (List ℕ)
 values_of = option_map (λ s. s.values)
 

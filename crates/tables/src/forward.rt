@@ -1,11 +1,11 @@
 // Frames forwarded through a checked table.
-ghost use Rattle.std.specs.Prelude.{◌≡◌, ◌+◌, ◌≤◌, ◌++◌, length, drop, replicate, ◌<◌, IfOk, MatchResult, OnErr};
+ghost use Rattle.std.specs.Prelude.{◌≡◌, ◌+◌, ◌≤◌, List, [], ◌∷◌, ◌++◌, option_map, length, drop, replicate, ◌<◌, IfOk, MatchResult, OnErr};
 ghost use Rattle.std.specs.Iterator.{YieldsFirstBy, item_count};
 ghost use Rattle.format.specs.Words.{value_of};
 ghost use Rattle.tables.specs.Rows.{OfItsRows};
 ghost use Rattle.faults.specs.declared.layers.FrameFault.TheVariants.{NoRoom};
-ghost use Rattle.tables.specs.Emits.{sent_length, sent_words};
-ghost use Rattle.tables.specs.Scans.{RowSent, RowFull, applied as applied_to, sends, weight_in, Next, above, values_of, sent_of};
+ghost use Rattle.tables.specs.Emits.{Sent as SentAt, sent_length, sent_words};
+ghost use Rattle.tables.specs.Scans.{RowSent, RowFull, applied as applied_to, sends, NextSent, above, values_of, sent_of};
 ghost use Rattle.tables.specs.Forwards.{Answered, Refused};
 
 use super::check::CheckedTable;
@@ -14,6 +14,7 @@ use super::word::TableWord;
 use faults::{FrameFault, zeros_if_refused};
 use format::{Setting, VALUE_END, Word};
 use frames::{Frame, WIDTH};
+use std::cmp::Ordering;
 use weights::WeightKind;
 
 // An emitted frame has a weight word and a word for each field.
@@ -23,17 +24,18 @@ pub const SENT_WORDS: usize = 1 + WIDTH;
 fn applied(words: &[u32], frame: Frame) -> Frame
     ensures { result.values ≡ applied_to words.now frame.values }
 {
-    let mut sent = frame;
+    // The values are changed where they stand: a `Frame::with` for each word copies the frame each time.
+    let mut values = frame.values;
     for bits in words {
         if !TableKind::Set.marks(*bits) {
-            return sent;
+            return Frame { values };
         }
         let word = Word::from(*bits);
         if let Some(setting) = Setting::new(word.field, word.value) {
-            sent = sent.with(setting);
+            values[setting.field as usize] = setting.value;
         }
     }
-    sent
+    Frame { values }
 }
 
 // A frame that a row sends on, and its weight.
@@ -72,29 +74,53 @@ impl Iterator for Emissions<'_> {
 }
 
 impl Emissions<'_> {
-    // The joined weight at which a frame is sent.
-    fn weight_of<K: WeightKind>(self, target: Frame) -> u32
-        ensures { result ≡ weight_in K.WeightKind.ops target.values K.WeightKind.ops.zero (sends self.entry.row.now self.entry.frame.values) }
+    // The least frame that is sent and comes after the last one, with the joined weight at which it is sent. One scan finds
+    // both, since each frame that a row sends is made anew.
+    fn next_after<K: WeightKind>(self, last: Option<Frame>) -> Option<Sent>
+        ensures { NextSent K.WeightKind.ops (values_of last) (sends self.entry.row.now self.entry.frame.values) (option_map sent_of result) }
     {
-        self.filter(|sent| sent.frame == target)
-            .fold(K::zero(), |weight, sent| K::join(weight, sent.weight))
-    }
-
-    // The least frame that is sent and comes after the last one.
-    fn next_after(self, last: Option<Frame>) -> Option<Frame>
-        ensures { Next (values_of last) (sends self.entry.row.now self.entry.frame.values) (values_of result) }
-    {
-        self.map(|sent| sent.frame)
-            .filter(|sent| comes_after(sent, last))
-            .min()
+        let mut best = None;
+        for sent in self {
+            take_in::<K>(&mut best, last.as_ref(), &sent);
+        }
+        best
     }
 }
 
 // Whether a frame comes after the last one, if there is one.
-fn comes_after(frame: &Frame, last: Option<Frame>) -> bool
-    ensures { result ≡ above (values_of last) frame.now.values }
+#[tactic(auto, using(crate::proofs::Order::lt_before))]
+fn comes_after(frame: &Frame, last: Option<&Frame>) -> bool
+    ensures { result ≡ above (option_map (λ s. s.now.values) last.entry) frame.now.values }
 {
-    last.is_none_or(|last| last.before(frame))
+    last.is_none_or(|last| last.cmp(frame).is_lt())
+}
+
+// Takes one more frame that is sent into the best of a scan: an equal frame joins its weight, a lesser one that comes after
+// the last takes its place.
+fn take_in<K: WeightKind>(best: &mut Option<Sent>, last: Option<&Frame>, sent: &Sent)
+    ensures { (xs : List SentAt) → NextSent K.WeightKind.ops (option_map (λ s. s.now.values) last.entry) xs (option_map sent_of best.old) → NextSent K.WeightKind.ops (option_map (λ s. s.now.values) last.entry) (xs ++ (sent_of sent.now ∷ [])) (option_map sent_of best.new) }
+{
+    if !comes_after(&sent.frame, last) {
+        return;
+    }
+    match best {
+        None => *best = Some(first::<K>(sent)),
+        Some(found) => match sent.frame.cmp(&found.frame) {
+            Ordering::Less => *found = first::<K>(sent),
+            Ordering::Equal => found.weight = K::join(found.weight, sent.weight),
+            Ordering::Greater => {}
+        },
+    }
+}
+
+// A frame that is sent for the first time.
+fn first<K: WeightKind>(sent: &Sent) -> Sent
+    ensures { sent_of result ≡ record { frame = sent.now.frame.values; weight = K.WeightKind.ops.join K.WeightKind.ops.zero sent.now.weight } }
+{
+    Sent {
+        frame: sent.frame,
+        weight: K::join(K::zero(), sent.weight),
+    }
 }
 
 // An emitted frame in words: a weight word and the frame's words.
@@ -129,11 +155,10 @@ fn send_all<K: WeightKind>(emissions: Emissions<'_>, out: &mut [u32]) -> Result<
     // counted and the last frame is kept here.
     let mut count = 0;
     let mut last = None;
-    while let Some(next) = emissions.next_after(last) {
-        let words = sent_words(emissions.weight_of::<K>(next), &next);
-        put(words, &mut out[count..])?;
+    while let Some(next) = emissions.next_after::<K>(last) {
+        put(sent_words(next.weight, &next.frame), &mut out[count..])?;
         count += SENT_WORDS;
-        last = Some(next);
+        last = Some(next.frame);
     }
     Ok(count)
 }

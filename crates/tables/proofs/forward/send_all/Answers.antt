@@ -15,19 +15,19 @@ returns-in_err-put g c =
     rw is (
       refl,
       listed_full g.K.WeightKind.ops (sends c.args.emissions.row.now c.args.emissions.frame.values) (values_of c.loop-next.last) c.args.out.now c.loop-next.count
-          c.loop-next.out c.in-Some.next.values c.loop-next.invariant c.in-Some.ensures
+          c.loop-next.out c.in-Some.next.frame.values c.loop-next.invariant c.in-Some.ensures.0
           (omega (arith, c.in_err-put.ensures.1, c.loop-next.auto.out)),
     )
 
 pub loop-next-preserved : goal.loop-next-preserved
 loop-next-preserved g c =
-    let t = c.in-Some.next.values in
+    let t = c.in-Some.next.frame.values in
     let eight : length t ≡ 8 = omega arith in
     let size : suc (length (frame_words t)) ≡ 9 = ap suc (length_words 0 t ∙ eight) in
     let room : c.loop-next.count + 9 ≤ length c.args.out.now = omega (arith, c.in_ok-put.ensures.0, c.loop-next.auto.out) in
     listed_more g.K.WeightKind.ops (sends c.args.emissions.row.now c.args.emissions.frame.values) (values_of c.loop-next.last) c.args.out.now c.loop-next.count
-    c.loop-next.out _ t c.weight_of.result c.loop-next.invariant c.in-Some.ensures c.weight_of.ensures size room
-    (put_front c.loop-next.count 9 c.loop-next.out _ _ _ c.in_ok-put.ensures.1 c.sent_words-words.ensures)
+    c.loop-next.out _ t c.in-Some.next.weight c.loop-next.invariant c.in-Some.ensures.0 c.in-Some.ensures.1 size room
+    (put_front c.loop-next.count 9 c.loop-next.out _ _ _ c.in_ok-put.ensures.1 c.sent_words.ensures)
 
 pub returns : goal.returns
 returns g c =

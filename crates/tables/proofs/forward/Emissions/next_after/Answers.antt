@@ -1,21 +1,31 @@
-use Rattle.std.proofs.Common.{◌≡◌, rules, tests, ap}
-use Rattle.std.specs.Ordering.{min_by_ordering, nat_cmp}
-use Rattle.std.specs.Cmp.Lexicographic.{slice_cmp}
-use Rattle.std.proofs.lemmas.Iterator.{YieldsList-from_map_by}
-use Rattle.std.proofs.lemmas.Iterator.Consumers.{YieldsList-from_filter, YieldsList-at, reduce_by_from_yields_List}
+use Rattle.std.proofs.Common.{◌≡◌, ℕ, List, [], ◌∷◌, ◌++◌, Option, None, Some, Bor, option_map, ap, subst}
+use Rattle.std.specs.Option.{option_copied}
 use Rattle.frames.specs.declared.frame.Frame.{Frame}
 use Rattle.tables.specs.Emits.{Sent}
-use Rattle.tables.specs.Scans.{sends, above, values_of}
-use Rattle.tables.proofs.Scans.{yields_sends}
-use Rattle.tables.proofs.Order.{lesser, min_lesser, next_least}
+use Rattle.tables.specs.Scans.{sends, NextSent, values_of, sent_of}
+use Rattle.tables.proofs.Best.{scan_begun, scan_more, scan_done}
 use Rattle.tables.proofs.forward.Emissions.next_after.Goals as goal
 
+same_last : (r : Option (Bor Frame)) (last : Option Frame) → option_copied r ≡ last → option_map (λ s. s.now.values) r ≡ values_of last
+same_last None last e = ap values_of e
+same_last (Some s) last e = ap values_of e
+
+pub loop-sent-init : goal.loop-sent-init
+loop-sent-init g c =
+    rw c.into_iter-sent-iterator.ensures.into_iter_gives
+    (scan_begun g.K.WeightKind.ops (values_of c.args.last) (sends c.args.self.row.now c.args.self.frame.values))
+
+pub loop-sent-preserved : goal.loop-sent-preserved
+loop-sent-preserved g c =
+    let o = g.K.WeightKind.ops in
+    let step =
+    subst (λ (l : Option (List ℕ)). (xs : List Sent) → NextSent o l xs (option_map sent_of c.loop-sent.best) →
+    NextSent o l (xs ++ (sent_of c.in-Some.sent ∷ [])) (option_map sent_of c.take_in.new.best))
+    (same_last c.as_ref.result c.args.last c.as_ref.ensures.value) c.take_in.ensures in
+    scan_more o (values_of c.args.last) (sends c.args.self.row.now c.args.self.frame.values) _ _ (sent_of c.in-Some.sent) _ _
+    c.loop-sent.invariant c.in-Some.ensures.steps step
+
 pub returns : goal.returns
-returns c =
-    next_least (values_of c.args.last) (sends c.args.self.row.now c.args.self.frame.values) _
-    (reduce_by_from_yields_List {v = λ (x : Frame). x.values} (λ p z. min_by_ordering (slice_cmp nat_cmp p.values z.values) p z) lesser _ c.min.result min_lesser c.min.ensures.ran
-    (YieldsList-from_filter _ (above (values_of c.args.last))
-    (YieldsList-at c.filter.ensures.source (YieldsList-from_map_by _ (λ (r : Frame). r.values) (λ (x : Sent). x.frame)
-    (yields_sends c.map.ensures.source) c.map.ensures.closure
-    (λ x r q k. let e : r ≡ x.frame = search (rules, tests) in (search (rules, tests), ap (λ (y : Frame). y.values) e))))
-    c.filter.ensures.closure (λ x b q k. search (rules, tests))))
+returns g c =
+    scan_done g.K.WeightKind.ops (values_of c.args.last) (sends c.args.self.row.now c.args.self.frame.values) _ _
+    c.loop-sent.invariant c.in-None.ensures.steps.0
