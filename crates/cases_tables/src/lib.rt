@@ -8,4 +8,6 @@ mod forwards;
 #[cfg(test)]
 mod memories;
 #[cfg(test)]
+mod replayed;
+#[cfg(test)]
 mod through;

@@ -1,5 +1,7 @@
 -- The whole record.
-use Rattle.std.proofs.Common.{◌≡◌, ℕ, ◌*◌, List, ◌++◌, length, subst}
+use Rattle.std.proofs.Common.{◌≡◌, ℕ, ◌+◌, ◌*◌, List, ◌++◌, length, drop, sym, subst, arith}
+use native.Mathlib.Decide.{dec_le}
+use Rattle.std.proofs.lemmas.List.{take-append-drop}
 use Rattle.faults.specs.Lines.{refused_line}
 use Rattle.faults.specs.Shows.{table_shown}
 use Rattle.faults.specs.declared.layers.TableFault.{TableFault}
@@ -36,3 +38,11 @@ pub table_refused :
     SaysSome (Record o table frames) p q
 table_refused o table frames (Illegal i) stops s = (refused_line (table_shown (Illegal i)), Record.no_table i stops, s)
 table_refused o table frames Full stops s = absurd stops
+
+-- a legal table is not refused
+pub refused_not_legal : (o : Ops) (table : List ℕ) (fault : TableFault) → RefusedAt o table fault → LegalTable o table → ⊥
+refused_not_legal o table (Illegal i) stops legal = elim (dec_le (i + 1) (length table)) [
+  | yes h ↦ stops.stuck (omega arith) (drop (i + 1) table) (subst (LegalTable o) (sym (take-append-drop (i + 1) table)) legal)
+  | no h ↦ stops.early (omega (arith, stops.within)) legal
+]
+refused_not_legal o table Full stops legal = stops

@@ -3,10 +3,9 @@
 
 ghost use Rattle.std.specs.Prelude.{◌≡◌, ◌*◌, ◌≤◌, length, IfOk};
 ghost use Rattle.tables.specs.Emits.{sent_length};
-ghost use Rattle.pages.specs.Pages.{SaysSome};
 ghost use Rattle.replays.specs.Bytes.{words_of};
-ghost use Rattle.replays.specs.Memory.{enough, Replayed};
-ghost use Rattle.replays.specs.Replays.{SaysFrame, SaysFrames, Record, kind_ops};
+ghost use Rattle.replays.specs.Memory.{wanted, enough, SaysRecord, Replayed};
+ghost use Rattle.replays.specs.Replays.{SaysFrame, SaysFrames, kind_ops};
 
 mod emitted;
 mod kind;
@@ -58,37 +57,61 @@ fn print_frames<K: WeightKind>(
     }
 }
 
-// The record of frames that go through a table of the kind K, both as words.
-fn print_replay<K: WeightKind>(page: &mut Page<'_>, table: &[u32], room: &mut [u32], frames: &[u32])
-    requires { length room.old ≡ length table.now * sent_length }
-    ensures { SaysSome (Record K.WeightKind.ops table.now frames.now) page.old page.new }
+// There is too little room for the frames that a table emits.
+#[derive(Clone, Copy)]
+struct NoRoom;
+
+// The record of frames that go through a table of the kind K, both as words. Only a legal table needs the room.
+fn print_replay<K: WeightKind>(
+    page: &mut Page<'_>,
+    table: &[u32],
+    room: &mut [u32],
+    frames: &[u32],
+) -> Result<(), NoRoom>
+    ensures { SaysRecord K.WeightKind.ops table.now frames.now (length table.now * sent_length) (length room.old) page.old result page.new }
 {
     match check_table::<K>(table) {
         Ok(checked) => {
+            // Each word of a table tells of one emission at most.
+            if room.len() / SENT_WORDS < table.len() {
+                return Err(NoRoom);
+            }
+            let room = &mut room[..table.len() * SENT_WORDS];
             Table(table).print(page);
             print_frames(page, &checked, room, frames)
         }
         Err(fault) => Shown::from(fault).print(page),
     }
+    Ok(())
 }
 
 // The same of a table of any kind, both as bytes.
-fn print_bytes(page: &mut Page<'_>, kind: Kind, table: &[u8], frames: &[u8], memory: &mut [u32])
-    requires { enough table.now frames.now ≤ length memory.old }
-    ensures { SaysSome (Record (kind_ops kind) (words_of table.now) (words_of frames.now)) page.old page.new }
+fn print_bytes(
+    page: &mut Page<'_>,
+    kind: Kind,
+    table: &[u8],
+    frames: &[u8],
+    memory: &mut [u32],
+) -> Result<(), NoRoom>
+    requires { wanted table.now frames.now ≤ length memory.old }
+    ensures { SaysRecord (kind_ops kind) (words_of table.now) (words_of frames.now) (enough table.now frames.now) (length memory.old) page.old result page.new }
 {
-    let count = count_words(table);
-    let (table_words, memory) = memory.split_at_mut(count);
-    let (frame_words, memory) = memory.split_at_mut(count_words(frames));
+    let (table_words, memory) = memory.split_at_mut(count_words(table));
+    let (frame_words, room) = memory.split_at_mut(count_words(frames));
     read_words(table, table_words);
     read_words(frames, frame_words);
-    // Each word of a table tells of one emission at most.
-    let room = &mut memory[..count * SENT_WORDS];
     // A kind of weights is a type and no value: so the value picks the instance here.
     match kind {
         Kind::Reach => print_replay::<Reach>(page, table_words, room, frame_words),
         Kind::Cost => print_replay::<Cost>(page, table_words, room, frame_words),
     }
+}
+
+// How many words a table and frames take, both as bytes. So many are enough for a table that is not legal.
+pub fn words_wanted(table: &[u8], frames: &[u8]) -> usize
+    ensures { result ≡ wanted table.now frames.now }
+{
+    count_words(table) + count_words(frames)
 }
 
 // The record of frames that go through a table of a kind, both as bytes, in lent memory, and how many bytes it has; or how much
@@ -103,15 +126,18 @@ pub fn replay(
     ensures record { Replayed (kind_ops kind) table.now frames.now (length words.old) out.old result out.new }
     ensures within { IfOk result (λ n. n ≤ length out.old) }
 {
-    let wanted = count_words(table).saturating_mul(SENT_WORDS + 1);
-    let wanted = wanted.saturating_add(count_words(frames));
+    let enough = count_words(table).saturating_mul(SENT_WORDS + 1);
+    let enough = enough.saturating_add(count_words(frames));
+    let wanted = words_wanted(table, frames);
     if words.len() < wanted {
-        return Err(Short::Words(wanted));
+        return Err(Short::Words(enough));
     }
     let mut page = Page::new(out);
-    print_bytes(&mut page, kind, table, frames, words);
-    match page.finish() {
-        Ok(length) => Ok(length),
-        Err(length) => Err(Short::Bytes(length)),
+    match print_bytes(&mut page, kind, table, frames, words) {
+        Ok(()) => match page.finish() {
+            Ok(length) => Ok(length),
+            Err(length) => Err(Short::Bytes(length)),
+        },
+        Err(NoRoom) => Err(Short::Words(enough)),
     }
 }
