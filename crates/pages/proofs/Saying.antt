@@ -1,7 +1,8 @@
 -- What is said on a page in several steps.
-use Rattle.std.proofs.Common.{◌≡◌, ℕ, ◌+◌, ◌<◌, ◌≤◌, min, List, [], ◌++◌, length, take, drop, set, ◌∷◌, Result, Ok, Err, IfOk, refl, ap, sym, ◌∙◌, inl, inr, arith, length-append, subst}
+use Rattle.std.proofs.Common.{◌≡◌, ℕ, ◌+◌, ◌-◌, ◌<◌, ◌≤◌, min, List, [], ◌++◌, length, take, drop, set, ◌∷◌, Result, Ok, Err, IfOk, refl, ap, sym, ◌∙◌, inl, inr, arith, length-append, subst}
 use Rattle.std.proofs.lemmas.Bool.{cases_lt}
-use Rattle.std.proofs.lemmas.List.{take_all, drop_all, append-nil}
+use Rattle.std.proofs.lemmas.List.{take_all, drop_all, append-nil, length-drop}
+use borrow.Rule.Slice.PartMut.{put_mid}
 use Rattle.pages.specs.declared.page.Page.{Page}
 use Rattle.pages.specs.Pages.{most, over, Says, Answered, Printed}
 use Rattle.pages.specs.Pages.Answered.{all, part}
@@ -79,6 +80,76 @@ part_of_it : (text memory : List ℕ) → length memory ≤ length text → over
 unfolding over
 part_of_it text memory room =
     ap (λ t. take (length memory) text ++ t) (drop_all (length text) memory room) ∙ append-nil (take (length memory) text)
+
+-- a place that a page's end bounds parts the memory as the place itself does
+parts_alike : (n start : ℕ) (m : List ℕ) → start ≡ min n (length m) → (take start m ≡ take n m) × (drop start m ≡ drop n m)
+parts_alike n start m e = elim (cases_lt (length m) n) [
+  | inl far ↦
+      let end : start ≡ length m = omega arith
+      in (take_all start m (omega arith) ∙ sym (take_all n m (omega arith)), drop_all start m (omega arith) ∙ sym (drop_all n m (omega arith)))
+  | inr near ↦ let place : start ≡ n = omega arith in (ap (λ i. take i m) place, ap (λ i. drop i m) place)
+]
+
+-- as many bytes as there is room for, from a place on
+pasted :
+    (a b : Page) (bytes ys : List ℕ) (start k : ℕ) →
+    start ≡ min a.said (length a.memory.now) →
+    b.said ≡ min (a.said + length bytes) most →
+    ys ++ drop k (drop start a.memory.now) ≡ over bytes (drop start a.memory.now) →
+    b.memory.now ≡ put_mid start k a.memory.now ys →
+    b.memory.ghost_name ≡ a.memory.ghost_name →
+    Says a bytes b
+pasted a b bytes ys start k from count same_part stored name =
+    let p = parts_alike a.said start a.memory.now from
+    in record {
+      count = omega (arith, count);
+      memory =
+          stored
+          ∙ ap (λ t. take start a.memory.now ++ t) same_part
+          ∙ ap (λ t. t ++ over bytes (drop start a.memory.now)) p.0
+          ∙ ap (λ t. take a.said a.memory.now ++ over bytes t) p.1;
+      lender = name;
+    }
+
+-- bytes for which there is room
+pub copied :
+    (a b : Page) (bytes ys : List ℕ) (start k : ℕ) →
+    start ≡ min a.said (length a.memory.now) →
+    length bytes ≤ length a.memory.now - start →
+    k ≡ length bytes →
+    ys ≡ bytes →
+    b.said ≡ min (a.said + length bytes) most →
+    b.memory.now ≡ put_mid start k a.memory.now ys →
+    b.memory.ghost_name ≡ a.memory.ghost_name →
+    Says a bytes b
+copied a b bytes ys start k from room size same count stored name =
+    let rest = drop start a.memory.now
+    in let fits : length bytes ≤ length rest = omega (arith, length-drop start a.memory.now)
+    in let same_part : ys ++ drop k rest ≡ over bytes rest =
+    ap (λ t. t ++ drop k rest) same ∙ ap (λ n. bytes ++ drop n rest) size ∙ sym (all_of_it bytes rest fits)
+    in pasted a b bytes ys start k from count same_part stored name
+
+-- more bytes than there is room for
+pub cut_off :
+    (a b : Page) (bytes ys : List ℕ) (start k : ℕ) →
+    start ≡ min a.said (length a.memory.now) →
+    length a.memory.now - start ≤ length bytes →
+    k ≡ length a.memory.now - start →
+    ys ≡ take (length a.memory.now - start) bytes →
+    b.said ≡ min (a.said + length bytes) most →
+    b.memory.now ≡ put_mid start k a.memory.now ys →
+    b.memory.ghost_name ≡ a.memory.ghost_name →
+    Says a bytes b
+cut_off a b bytes ys start k from room size same count stored name =
+    let rest = drop start a.memory.now
+    in let left : length rest ≡ length a.memory.now - start = length-drop start a.memory.now
+    in let same_part : ys ++ drop k rest ≡ over bytes rest =
+    ap (λ t. ys ++ t) (drop_all k rest (omega arith))
+    ∙ append-nil ys
+    ∙ same
+    ∙ ap (λ n. take n bytes) (sym left)
+    ∙ sym (part_of_it bytes rest (omega arith))
+    in pasted a b bytes ys start k from count same_part stored name
 
 finished :
     {a b : Page} {text : List ℕ} {r : Result ℕ ℕ} →

@@ -35,12 +35,18 @@ impl Page<'_> {
         self.said = self.said.saturating_add(1);
     }
 
+    // Whole pieces are copied, since a record has thousands of them.
     pub fn push_bytes(&mut self, bytes: &[u8])
         ensures { Says self.old bytes.now self.new }
     {
-        for byte in bytes {
-            self.push(*byte);
+        let start = self.said.min(self.memory.len());
+        let room = self.memory.len() - start;
+        if bytes.len() <= room {
+            self.memory[start..start + bytes.len()].copy_from_slice(bytes);
+        } else {
+            self.memory[start..].copy_from_slice(&bytes[..room]);
         }
+        self.said = self.said.saturating_add(bytes.len());
     }
 
     pub fn push_str(&mut self, text: &str)
