@@ -9,7 +9,7 @@ mod tests {
     use checking::CheckedPolicy;
     use counts::Counts;
     use engine::Engine;
-    use faults::StoreFault;
+    use faults::{BenchFault, StoreFault};
     use format::{Amount, Setting, TEXT_LIMIT, WORDS_LIMIT};
     use policy::read_policy;
     use records::{Cell, Diagram, Node};
@@ -25,25 +25,33 @@ mod tests {
     // Actions, cells and nodes.
     type Added = [usize; 3];
 
+    // What memory holds before a store writes there.
+    fn blank_cell() -> Cell {
+        let none = Amount { number: 0 };
+        Cell {
+            action: none,
+            weight: none,
+            rest: none,
+        }
+    }
+
+    fn blank_node() -> Node {
+        let none = Diagram::Leaf(Amount { number: 0 });
+        Node {
+            test: Setting { field: 0, value: 0 },
+            yes: none,
+            no: none,
+        }
+    }
+
     // Why compiling in stores of these sizes is refused, if it is, and how many records are in store then.
     fn compiled<K: WeightKind>(
         policy: &CheckedPolicy,
         sizes: Added,
     ) -> (Option<StoreFault>, Counts) {
-        let none = Amount { number: 0 };
-        let cell = Cell {
-            action: none,
-            weight: none,
-            rest: none,
-        };
-        let node = Node {
-            test: Setting { field: 0, value: 0 },
-            yes: Diagram::Leaf(none),
-            no: Diagram::Leaf(none),
-        };
         let mut actions = [Action::keep_all(); ACTIONS];
-        let mut cells = [cell; CELLS];
-        let mut nodes = [node; NODES];
+        let mut cells = [blank_cell(); CELLS];
+        let mut nodes = [blank_node(); NODES];
         let [action_room, cell_room, node_room] = sizes;
         let mut engine = Engine::<K>::open(
             &mut actions[..action_room.min(ACTIONS)],
@@ -67,19 +75,22 @@ mod tests {
         compiled::<K>(policy, sizes) == (Some(StoreFault::Full), Counts::none())
     }
 
+    fn counted(records: Counts) -> Added {
+        [
+            records.actions as usize,
+            records.cells as usize,
+            records.nodes as usize,
+        ]
+    }
+
     // Whether the text's policy adds just these records: stores with room for no more are enough, and with one less refused.
     fn adds<K: WeightKind>(text: &[u8], added: Added) -> bool {
         let Ok(policy) = read_policy(text, &mut [0; WORDS_LIMIT]) else {
             return false;
         };
         let (fault, records) = compiled::<K>(&policy, added);
-        let counted = [
-            records.actions as usize,
-            records.cells as usize,
-            records.nodes as usize,
-        ];
         fault.is_none()
-            && counted == added
+            && counted(records) == added
             && refused::<K>(&policy, added, 0)
             && refused::<K>(&policy, added, 1)
             && refused::<K>(&policy, added, 2)
@@ -186,5 +197,50 @@ mod tests {
             ("cost 65535);pt:=1)", 1),
         ];
         assert!(rt; adds::<Cost>(&text(&halves), [3, 133, 0]));
+    }
+
+    // Whether a test of the port is refused in stores of these sizes, and nothing is in store then.
+    fn refuses_a_test(sizes: Added) -> bool {
+        let Ok(policy) = read_policy(b"pt=3", &mut [0; WORDS_LIMIT]) else {
+            return false;
+        };
+        compiled::<Reach>(&policy, sizes) == (Some(StoreFault::Full), Counts::none())
+    }
+
+    #[test]
+    fn a_test_is_refused_for_want_of_an_action(rt: HostRuntime) {
+        assert!(rt; refuses_a_test([0, 1, 1]));
+    }
+
+    #[test]
+    fn a_test_is_refused_for_want_of_a_cell(rt: HostRuntime) {
+        assert!(rt; refuses_a_test([1, 0, 1]));
+    }
+
+    #[test]
+    fn a_test_is_refused_for_want_of_a_node(rt: HostRuntime) {
+        assert!(rt; refuses_a_test([1, 1, 0]));
+    }
+
+    // The word of the diagram of a text's policy.
+    fn word(engine: &mut Engine<'_, Reach>, text: &[u8]) -> Result<u32, BenchFault> {
+        let policy = read_policy(text, &mut [0; WORDS_LIMIT])?;
+        Ok(engine.compile(&policy)?)
+    }
+
+    // One of each is enough for one test, asked for twice, and not for a second test.
+    #[test]
+    fn one_of_each_is_enough_for_one_test(rt: HostRuntime) {
+        let mut actions = [Action::keep_all(); 1];
+        let mut cells = [blank_cell(); 1];
+        let mut nodes = [blank_node(); 1];
+        let mut engine = Engine::open(&mut actions, &mut cells, &mut nodes);
+        let first = word(&mut engine, b"pt=3");
+        let other = word(&mut engine, b"pt=4");
+        let again = word(&mut engine, b"pt=3");
+        assert_eq!(rt; first, Ok(0x1000_0001));
+        assert_eq!(rt; other, Err(BenchFault::Store(StoreFault::Full)));
+        assert_eq!(rt; again, first);
+        assert_eq!(rt; counted(engine.records()), [1, 1, 1]);
     }
 }

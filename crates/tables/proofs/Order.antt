@@ -1,19 +1,17 @@
 -- The order of frames is strict and total, and what is least in it.
-use Rattle.std.proofs.Common.{◌≡◌, ℕ, Bool, true, false, cond, ◌⊎◌, List, [], ◌∷◌, map, Some, None, Option, sym, refl, ap, ◌∙◌, subst, inl, inr, arith}
-use Rattle.std.specs.List.{filter, fold, reduce}
+use Rattle.std.proofs.Common.{◌≡◌, ℕ, true, false, List, map, Some, None, Option, sym, refl, ap, ◌∙◌, inl, inr, arith}
 use Rattle.std.specs.Cmp.{IsStrictWeakOrder}
 use Rattle.std.specs.Cmp.Lexicographic.{slice_cmp}
-use Rattle.std.specs.Ordering.{nat_cmp, is_lt, is_eq, is_gt, min_by_ordering}
+use Rattle.std.specs.Ordering.{nat_cmp, is_lt, is_eq, is_gt}
 use Rattle.std.specs.declared.cmp.Ordering.{Ordering}
 use Rattle.std.specs.declared.cmp.Ordering.TheVariants.{Less, Equal, Greater}
-use Rattle.std.proofs.lemmas.Bool.{cases_Bool, true≢false, cond-true, cond-false, cond_both}
+use Rattle.std.proofs.lemmas.Bool.{cases_Bool, true≢false}
 use Rattle.std.proofs.lemmas.Bool.Decides.{nat_tests}
 use Rattle.std.proofs.lemmas.Cmp.{nat_list_cmp_total, same_from_slice_cmp}
 use Rattle.std.proofs.lemmas.List.MinMax.{ranks_by}
 use Rattle.frames.specs.Frames.{before}
-use Rattle.frames.specs.declared.frame.Frame.{Frame}
-use Rattle.tables.specs.Emits.{Sent, same, In}
-use Rattle.tables.specs.Scans.{above, Next}
+use Rattle.tables.specs.Emits.{Sent, same}
+use Rattle.tables.specs.Scans.{above}
 use Rattle.tables.proofs.Scans.{same_decides}
 
 abbrev pub frames_of : List Sent → List (List ℕ)

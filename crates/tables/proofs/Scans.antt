@@ -1,23 +1,15 @@
 -- Steps of the scans.
-use Rattle.std.proofs.Common.{◌≡◌, ℕ, zero, suc, ◌<◌, ◌≤◌, true, false, ◌&&◌, eqb, ◌⊎◌, List, [], ◌∷◌, length, drop, set, Decides, Option, nat_eq, unwrap_or, MatchOption, add-one, arith, sym, refl, ap, ◌∙◌, subst, inl, inr}
-use Rattle.std.specs.List.{HoldsAt, AllWithin, list_all, filter, fold, slice_range}
+use Rattle.std.proofs.Common.{◌≡◌, ℕ, zero, suc, ◌<◌, ◌≤◌, true, false, ◌&&◌, eqb, ◌⊎◌, List, [], ◌∷◌, length, drop, set, Decides, Option, unwrap_or, MatchOption, add-one, arith, sym, refl, ap, ◌∙◌, subst, inl, inr}
+use Rattle.std.specs.List.{HoldsAt, AllWithin, list_all, slice_range}
 use Rattle.std.proofs.lemmas.List.{take_rest}
-use Rattle.std.specs.Cmp.Lexicographic.{pointwise, bytes_decides}
-use Rattle.tables.specs.Emits.{Sent}
-use Rattle.tables.specs.declared.forward.Emissions.{Emissions}
-use Rattle.std.specs.Iterator.{YieldsFirstBy}
-use Rattle.std.proofs.lemmas.Iterator.{YieldsList}
-use Rattle.std.proofs.lemmas.Iterator.Consumers.{YieldsList-from_first, YieldsList-at}
-use Rattle.std.proofs.lemmas.Bool.Decides.{same_from_decides}
 use Rattle.std.proofs.lemmas.List.Recursion.{same_from_clauses}
 use Rattle.std.proofs.lemmas.Iterator.{index_from_first}
 use Rattle.std.proofs.lemmas.Slice.Eq.{compares_Decides}
-use Rattle.std.proofs.lemmas.Bool.{cases_Bool, and_from, lt-ltb, le-ltb, eq-eqb, ne_eqb, cond-true, cond-false, or_left, or_right, or_from, or_parts, cond_both}
+use Rattle.std.proofs.lemmas.Bool.{and_from, lt-ltb, le-ltb, eq-eqb, ne_eqb, cond-true, cond-false, or_left, or_right, or_from, or_parts, cond_both}
 use Rattle.format.specs.Fields.{fields, range, LegalValue}
-use Rattle.weights.specs.Weights.{Ops}
 use Rattle.tables.specs.Emits.{same}
 use Rattle.format.specs.Words.{kind_of, field_of, value_of}
-use Rattle.tables.specs.Scans.{closes, body_length, match_holds, matches_hold, counted, heads_past, put, sends, weight_in, sent_of}
+use Rattle.tables.specs.Scans.{closes, body_length, match_holds, matches_hold, counted, heads_past, put}
 
 pub closes_by : (w k : ℕ) → k ≡ kind_of w → (k ≡ 10) ⊎ (k ≡ 14) → closes w ≡ true
 closes_by w k e (inl h) = or_left _ _ (eq-eqb (kind_of w) 10 (sym e ∙ h))

@@ -1,5 +1,4 @@
 use Rattle.std.proofs.Common.{◌≡◌, ◌+◌, ◌-◌, length, refl, ap, arith}
-use Rattle.pages.specs.Pages.{Says}
 use Rattle.pages.proofs.Saying.{copied, cut_off}
 use Rattle.pages.proofs.page.Page.push_bytes.Goals.{then-bytes-room, else-bytes-room}
 use Rattle.pages.proofs.page.Page.push_bytes.Goals as goal
