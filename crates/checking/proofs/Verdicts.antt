@@ -29,7 +29,7 @@ both_true : (a b : Bool) → cond a b false ≡ true → (a ≡ true) × (b ≡ 
 both_true true b e = (refl, e)
 both_true false b e = cc
 
-predicate_true : (p : Policy) → is_predicate p ≡ true → Predicate p
+pub predicate_true : (p : Policy) → is_predicate p ≡ true → Predicate p
 predicate_true Policy.Drop e = tt
 predicate_true Policy.Pass e = tt
 predicate_true (Policy.Test f n) e = tt

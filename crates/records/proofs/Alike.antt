@@ -14,22 +14,22 @@ use Rattle.records.specs.Words.{word_of, ItsWord}
 use Rattle.records.specs.contracts.kinds.DiagramPartialEq.TheImpl.{ghosts as diagrams}
 
 -- what a type promises of its numbers has one proof only
-amounts_alike : (a b : Amount) → a.number ≡ b.number → a ≡ b
+pub amounts_alike : (a b : Amount) → a.number ≡ b.number → a ≡ b
 amounts_alike a b e =
     ap (λ (t : (n : ℕ) × (n < value_end)). record { number = t.0; fits = t.1 })
     (Σ_prop_path (λ (n : ℕ). le_prop) {u = (a.number, a.fits)} {v = (b.number, b.fits)} e)
 
-settings_alike : (a b : Setting) → (a.field ≡ b.field) × (a.value ≡ b.value) → a ≡ b
-settings_alike a b e =
+pub settings_alike : (a b : Setting) → a.field ≡ b.field → a.value ≡ b.value → a ≡ b
+settings_alike a b e h =
     ap (λ (t : (p : ℕ × ℕ) × ((p.0 < fields) × LegalValue p.0 p.1)). record { field = t.0.0; value = t.0.1; exists = t.1.0; legal = t.1.1 })
-    (Σ_prop_path (λ (p : ℕ × ℕ). ×_prop le_prop le_prop) {u = ((a.field, a.value), (a.exists, a.legal))} {v = ((b.field, b.value), (b.exists, b.legal))} (λ i. (e.0 i, e.1 i)))
+    (Σ_prop_path (λ (p : ℕ × ℕ). ×_prop le_prop le_prop) {u = ((a.field, a.value), (a.exists, a.legal))} {v = ((b.field, b.value), (b.exists, b.legal))} (λ i. (e i, h i)))
 
 pub amounts_told : (a b : Amount) → Decides (eqb a.number b.number) (a ≡ b)
 amounts_told a b = Decides-like _ (amounts_alike a b) (ap (λ (x : Amount). x.number)) (Decides-eqb a.number b.number)
 
 pub settings_told : (a b : Setting) → Decides (eqb a.field b.field && eqb a.value b.value) (a ≡ b)
 settings_told a b =
-    Decides-like _ (settings_alike a b) (λ e. (ap (λ (x : Setting). x.field) e, ap (λ (x : Setting). x.value) e))
+    Decides-like _ (λ e. settings_alike a b e.0 e.1) (λ e. (ap (λ (x : Setting). x.field) e, ap (λ (x : Setting). x.value) e))
     (Decides-and _ _ (Decides-eqb a.field b.field) (Decides-eqb a.value b.value))
 
 pub sets_told : (x y : Option ℕ) → Decides (option_eq eqb x y) (x ≡ y)
@@ -44,7 +44,7 @@ diagrams_told (Leaf m) (Branch n) = (λ e. cc, λ e. cc)
 diagrams_told (Branch m) (Leaf n) = (λ e. cc, λ e. cc)
 diagrams_told (Branch m) (Branch n) = Decides-like _ (ap Branch) (λ e. cc) (amounts_told m n)
 
-words_apart : (d e : Diagram) → word_of d ≡ word_of e → d ≡ e
+pub words_apart : (d e : Diagram) → word_of d ≡ word_of e → d ≡ e
 words_apart (Leaf m) (Leaf n) h = ap Leaf (amounts_alike m n (omega arith))
 words_apart (Leaf m) (Branch n) h = absurd (omega (arith, m.fits))
 words_apart (Branch m) (Leaf n) h = absurd (omega (arith, n.fits))

@@ -562,7 +562,7 @@ module _ {o : Ops} (laws : Laws o) where
   expected_emission n due w rest r =
       elim (emissions_first laws n due w rest r) [ inl a ↦ inl a.0 | inr a ↦ inr (a.0, rows_first {o = o} n w rest a.1) ]
 
-  expected : (n : ℕ) (s : State) (w : ℕ) (rest : List ℕ) → Open n s → Rest o n s (w ∷ rest) → Expected s (kind_of w)
+  pub expected : (n : ℕ) (s : State) (w : ℕ) (rest : List ℕ) → Open n s → Rest o n s (w ∷ rest) → Expected s (kind_of w)
   expected n Head w rest h r = rows_first {o = o} n w rest r
   expected n (Matches f due m) w rest h r = matches_first {o = o} n f due m w rest h.1 r
   expected n (Emissions due) w rest h r =
