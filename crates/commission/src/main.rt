@@ -8,6 +8,7 @@ use std::io::{ErrorKind, Read, Write};
 
 // The longest line of a word, as `word 32FFFFFF set vlan:=16777215`, and the other lines together.
 const WORD_LINE: usize = 33;
+
 const OTHER_LINES: usize = 64;
 
 // As long as the record of a text may be: no text has more words than bytes. So one report is enough.
