@@ -3,16 +3,84 @@
 
 use anyhow::anyhow;
 use replays::{Kind, Short, replay, words_wanted};
+use std::alloc::{AllocError, Global};
 use std::io::Write;
 use std::{env, fs};
 
 // The line of a refused table has no more bytes.
 const LINE: usize = 64;
+// A frame takes so many bytes in its file.
+const FRAME: usize = 32;
+// So many frames at most tell how long the lines of all are.
+const SAMPLE: usize = 64;
+// Files of frames up to this length need no sample.
+const FEW: usize = 1 << 15;
+// So many bytes more than is likely are lent.
+const SPARE: usize = 1 << 16;
+
+// How long a record is.
+fn length(kind: Kind, table: &[u8], frames: &[u8], words: &mut [u32]) -> usize {
+    match replay(kind, table, frames, words, &mut []) {
+        Ok(count) => count,
+        Err(Short::Words(count)) => count,
+        Err(Short::Bytes(count)) => count,
+    }
+}
+
+// Some of the frames, from all over their file.
+fn sample(heap: Global, frames: &[u8]) -> Result<Vec<u8>, AllocError> {
+    let mut sample = Vec::new(heap);
+    for part in frames.chunks(FRAME * (frames.len() / (FRAME * SAMPLE) + 1)) {
+        sample.extend_from_slice(part.get(..FRAME).unwrap_or(part))?;
+    }
+    Ok(sample)
+}
+
+// How long the record is likely to be: most are then made once. Few frames are taken to emit one frame each, and of many a
+// sample tells.
+fn likely_length(
+    heap: Global,
+    kind: Kind,
+    table: &[u8],
+    frames: &[u8],
+    words: &mut [u32],
+) -> Result<usize, AllocError> {
+    if frames.len() <= FEW || frames.len() < table.len() / 4 {
+        let likely = table.len().saturating_mul(7);
+        return Ok(
+            likely
+                .saturating_add(frames.len().saturating_mul(11))
+                .saturating_add(SPARE),
+        );
+    }
+    let some = sample(heap, frames)?;
+    let none = length(kind, table, &[], words);
+    let lines = length(kind, table, &some, words).saturating_sub(none);
+    let lines = lines.saturating_mul(frames.len() / some.len().max(1) + 1);
+    Ok(
+        none.saturating_add(lines)
+            .saturating_add(lines / 8)
+            .saturating_add(SPARE),
+    )
+}
+
+// Memory for a record of the likely length. Where there is less memory than is likely to do, the replay says how much does.
+fn likely_record(
+    heap: Global,
+    kind: Kind,
+    table: &[u8],
+    frames: &[u8],
+    words: &mut [u32],
+) -> Result<Vec<u8>, AllocError> {
+    let likely = likely_length(heap, kind, table, frames, words)?;
+    Ok(vec![in heap; 0; likely].unwrap_or(Vec::new(heap)))
+}
 
 // Prints the record, in memory that is lent for it.
 fn print(rt: &HostRuntime, kind: Kind, table: &[u8], frames: &[u8]) -> anyhow::Result<()> {
-    let mut words = vec![in rt.alloc(); 0; words_wanted(table, frames)]?;
-    let mut record = vec![in rt.alloc(); 0; LINE]?;
+    let heap = rt.alloc();
+    let mut words = vec![in heap; 0; words_wanted(table, frames)]?;
+    let mut record = vec![in heap; 0; LINE]?;
     // A replay says how much more it needs: of a legal table, first of words, then of bytes. What was lent goes before more is.
     for _ in 0..3 {
         match replay(kind, table, frames, &mut words, &mut record) {
@@ -21,12 +89,13 @@ fn print(rt: &HostRuntime, kind: Kind, table: &[u8], frames: &[u8]) -> anyhow::R
                 return Ok(());
             }
             Err(Short::Words(count)) => {
-                words = Vec::new(rt.alloc());
-                words = vec![in rt.alloc(); 0; count]?;
+                words = Vec::new(heap);
+                words = vec![in heap; 0; count]?;
+                record = likely_record(heap, kind, table, frames, &mut words)?;
             }
             Err(Short::Bytes(count)) => {
-                record = Vec::new(rt.alloc());
-                record = vec![in rt.alloc(); 0; count]?;
+                record = Vec::new(heap);
+                record = vec![in heap; 0; count]?;
             }
         }
     }
