@@ -13,13 +13,15 @@ const LINE: usize = 64;
 const FRAME: usize = 32;
 // So many frames at most tell how long the lines of all are.
 const SAMPLE: usize = 64;
-// Files of frames up to this length need no sample.
+// Files of frames up to this length need no sample: a few bytes too many do not matter there.
 const FEW: usize = 1 << 15;
+// A sample that tells of more bytes than so many for each of the frames' file is not believed.
+const MOST: usize = 64;
 // So many bytes more than is likely are lent.
 const SPARE: usize = 1 << 16;
 
 // How long a record is.
-fn length(kind: Kind, table: &[u8], frames: &[u8], words: &mut [u32]) -> usize {
+fn record_length(kind: Kind, table: &[u8], frames: &[u8], words: &mut [u32]) -> usize {
     match replay(kind, table, frames, words, &mut []) {
         Ok(count) => count,
         Err(Short::Words(count)) => count,
@@ -27,17 +29,39 @@ fn length(kind: Kind, table: &[u8], frames: &[u8], words: &mut [u32]) -> usize {
     }
 }
 
-// Some of the frames, from all over their file.
+// Some of the frames, from all over their file: one of each part of it, at another place in each, since captures repeat.
 fn sample(heap: Global, frames: &[u8]) -> Result<Vec<u8>, AllocError> {
     let mut sample = Vec::new(heap);
+    let mut turn = 0_usize;
     for part in frames.chunks(FRAME * (frames.len() / (FRAME * SAMPLE) + 1)) {
-        sample.extend_from_slice(part.get(..FRAME).unwrap_or(part))?;
+        let at = FRAME * (turn % (part.len() / FRAME).max(1));
+        sample.extend_from_slice(part.get(at..at + FRAME).unwrap_or(part))?;
+        turn = turn.wrapping_add(37);
     }
     Ok(sample)
 }
 
-// How long the record is likely to be: most are then made once. Few frames are taken to emit one frame each, and of many a
-// sample tells.
+// How long the lines of many frames are likely to be, by a sample.
+fn sampled_length(
+    heap: Global,
+    kind: Kind,
+    table: &[u8],
+    frames: &[u8],
+    words: &mut [u32],
+) -> Result<usize, AllocError> {
+    let some = sample(heap, frames)?;
+    let none = record_length(kind, table, &[], words);
+    let lines = record_length(kind, table, &some, words).saturating_sub(none);
+    let lines = lines.saturating_mul(frames.len() / some.len().max(1) + 1);
+    if lines > frames.len().saturating_mul(MOST) {
+        return Ok(0);
+    }
+    let likely = none.saturating_add(lines).saturating_add(lines / 8);
+    Ok(likely.saturating_add(SPARE))
+}
+
+// How long the record is likely to be: most are then made once. It is enough for the table, and for few frames, or where the
+// table is the greater work, for what frames emit as a rule; of many frames a sample tells.
 fn likely_length(
     heap: Global,
     kind: Kind,
@@ -45,23 +69,15 @@ fn likely_length(
     frames: &[u8],
     words: &mut [u32],
 ) -> Result<usize, AllocError> {
-    if frames.len() <= FEW || frames.len() < table.len() / 4 {
-        let likely = table.len().saturating_mul(7);
-        return Ok(
-            likely
-                .saturating_add(frames.len().saturating_mul(11))
-                .saturating_add(SPARE),
-        );
-    }
-    let some = sample(heap, frames)?;
-    let none = length(kind, table, &[], words);
-    let lines = length(kind, table, &some, words).saturating_sub(none);
-    let lines = lines.saturating_mul(frames.len() / some.len().max(1) + 1);
-    Ok(
-        none.saturating_add(lines)
-            .saturating_add(lines / 8)
-            .saturating_add(SPARE),
-    )
+    let emitted = if frames.len() <= FEW {
+        frames.len().saturating_mul(32)
+    } else if frames.len() / 4 < table.len() {
+        frames.len().saturating_mul(11)
+    } else {
+        return sampled_length(heap, kind, table, frames, words);
+    };
+    let likely = table.len().saturating_mul(7).saturating_add(emitted);
+    Ok(likely.saturating_add(SPARE))
 }
 
 // Memory for a record of the likely length. Where there is less memory than is likely to do, the replay says how much does.
