@@ -29,14 +29,14 @@ fn record_length(kind: Kind, table: &[u8], frames: &[u8], words: &mut [u32]) -> 
     }
 }
 
-// Some of the frames, from all over their file: one of each part of it, at another place in each, since captures repeat.
+// Some of the frames, from all over their file: one of each part of it, at a place as good as random, since captures repeat.
 fn sample(heap: Global, frames: &[u8]) -> Result<Vec<u8>, AllocError> {
     let mut sample = Vec::new(heap);
-    let mut turn = 0_usize;
+    let mut turn = 1_u64;
     for part in frames.chunks(FRAME * (frames.len() / (FRAME * SAMPLE) + 1)) {
-        let at = FRAME * (turn % (part.len() / FRAME).max(1));
+        let at = FRAME * ((turn >> 33) as usize % (part.len() / FRAME).max(1));
         sample.extend_from_slice(part.get(at..at + FRAME).unwrap_or(part))?;
-        turn = turn.wrapping_add(37);
+        turn = turn.wrapping_mul(6_364_136_223_846_793_005).wrapping_add(1);
     }
     Ok(sample)
 }
