@@ -3,15 +3,12 @@ use Rattle.engine.proofs.Composing.{kept_trans}
 use Rattle.engine.proofs.FollowRules.{empty_leaf}
 use Rattle.engine.proofs.NarrowRules.{here}
 use Rattle.engine.proofs.SimpleRules.{test_stops, test_made}
-use Rattle.std.proofs.Common.{refl, arith}
+use Rattle.std.proofs.Common.{refl}
 use Rattle.engine.proofs.LeafRules.{node_leaves}
 use Rattle.engine.proofs.compiling.test_word.Goals as goal
 
 pub returns-in_err-yes-clause-done : goal.returns-in_err-yes-clause-done
 returns-in_err-yes-clause-done g c = test_stops c.requires.good c.args.test.field c.args.test.value c.in_err-yes.ensures.done (passed_on c.from_residual.ensures.1)
-
-pub enter_node-requires-clause-no : goal.enter_node-requires-clause-no
-enter_node-requires-clause-no g c = omega arith
 
 pub returns-clause-done : goal.returns-clause-done
 returns-clause-done g c =
