@@ -1,5 +1,5 @@
 -- The memory of a replay, and what becomes of it.
-use Rattle.std.specs.Prelude.{◌≡◌, ℕ, ◌+◌, ◌*◌, ◌<◌, ◌≤◌, min, List, length, Ok, Err, Result, MatchResult}
+use Rattle.std.specs.Prelude.{◌≡◌, ℕ, ◌+◌, ◌*◌, ◌<◌, ◌≤◌, min, List, [], length, Ok, Err, Result, MatchResult}
 use Rattle.weights.specs.Weights.{Ops}
 use Rattle.tables.specs.Emits.{sent_length}
 use Rattle.tables.specs.Rows.{LegalTable}
@@ -9,7 +9,7 @@ use Rattle.replays.specs.declared.NoRoom.{NoRoom}
 use Rattle.replays.specs.declared.short.Short.{Short}
 use Rattle.replays.specs.declared.short.Short.TheVariants.{Words, Bytes}
 use Rattle.replays.specs.Bytes.{words_of}
-use Rattle.replays.specs.Replays.{Record}
+use Rattle.replays.specs.Replays.{LinesBehind, Record}
 
 -- how many words the table and the frames take
 abbrev pub wanted : List ℕ → List ℕ → ℕ
@@ -19,11 +19,11 @@ wanted table frames = length (words_of table) + length (words_of frames)
 abbrev pub enough : List ℕ → List ℕ → ℕ
 enough table frames = length (words_of table) * (sent_length + 1) + length (words_of frames)
 
--- what becomes of a record that needs so many words of room where so many are left: it is said, or the table is legal, there are
--- too few, and nothing is said
-abbrev pub SaysRecord : Ops → List ℕ → List ℕ → ℕ → ℕ → Page → Result Unit NoRoom → Page → Type 0
-SaysRecord o table frames needs room old r new =
-    MatchResult r (λ _. (LegalTable o table → needs ≤ room) × SaysSome (Record o table frames) old new)
+-- what becomes of a record with these first lines that needs so many words of room where so many are left: it is said, or the
+-- table is legal, there are too few, and nothing is said
+abbrev pub SaysRecord : Ops → List ℕ → List ℕ → List ℕ → ℕ → ℕ → Page → Result Unit NoRoom → Page → Type 0
+SaysRecord o first table frames needs room old r new =
+    MatchResult r (λ _. (LegalTable o table → needs ≤ room) × SaysSome (LinesBehind o first table frames) old new)
     (λ _. LegalTable o table × (room < needs) × (new ≡ old))
 
 -- a length, or the bytes that would be enough
@@ -45,3 +45,13 @@ pub data Replayed (o : Ops) (table frames : List ℕ) (room : ℕ) (was : List �
       (LegalTable o (words_of table) → enough table frames ≤ room) →
       PrintedSome (Record o (words_of table) (words_of frames)) was r is →
       Replayed o table frames room was (of_bytes r) is
+
+-- how long a record without its first lines is, as far as a number can say it, or none where there are too few words
+pub data LinesLength (o : Ops) (table frames : List ℕ) (room : ℕ) : ℕ → Type 0 where
+  none : room < enough table frames → (wanted table frames ≤ room → LegalTable o (words_of table)) → LinesLength o table frames room 0
+  measured :
+      {text : List ℕ} →
+      wanted table frames ≤ room →
+      (LegalTable o (words_of table) → enough table frames ≤ room) →
+      LinesBehind o [] (words_of table) (words_of frames) text →
+      LinesLength o table frames room (min most (length text))

@@ -1,5 +1,5 @@
 -- The record of a replay, by what the table does with each frame.
-use Rattle.std.specs.Prelude.{◌≡◌, ℕ, ◌*◌, ◌/◌, ◌<◌, List, [], ◌++◌, length, take, drop}
+use Rattle.std.specs.Prelude.{◌≡◌, ℕ, ◌*◌, ◌/◌, ◌<◌, Bool, true, false, List, [], ◌++◌, length, take, drop}
 use Rattle.std.specs.List.{flat_map}
 use Rattle.std.specs.Simd.{first_chunks}
 use Rattle.faults.specs.declared.layers.FrameFault.{FrameFault}
@@ -54,15 +54,24 @@ SaysFrame o table room ws old new = OfItsRows o table (λ rows. SaysSome (FrameS
 abbrev pub SaysFrames : Ops → List ℕ → ℕ → List ℕ → Page → Page → Type 0
 SaysFrames o table room ws old new = OfItsRows o table (λ rows. SaysSome (FramesSaid o rows room ws) old new)
 
--- the record of a table's words and the frames' words: the table and each frame, or why the table is refused
-pub data Record (o : Ops) (table frames : List ℕ) : List ℕ → Type 0 where
+-- what is said of a table's words and the frames' words: these first lines and then each frame, or why the table is refused
+pub data LinesBehind (o : Ops) (first table frames : List ℕ) : List ℕ → Type 0 where
   replayed :
       (rows : List Row) (text : List ℕ) →
       LegalRows o rows →
       table ≡ table_words rows →
       FramesSaid o rows (length table * sent_length) frames text →
-      Record o table frames (table_lines table ++ text)
-  no_table : (place : ℕ) → Stops o table place → Record o table frames (refused_line (table_shown (Illegal place)))
+      LinesBehind o first table frames (first ++ text)
+  no_table : (place : ℕ) → Stops o table place → LinesBehind o first table frames (refused_line (table_shown (Illegal place)))
+
+-- the record: the table and each frame, or why the table is refused
+abbrev pub Record : Ops → List ℕ → List ℕ → List ℕ → Type 0
+Record o table frames = LinesBehind o (table_lines table) table frames
+
+-- the lines of a table, or none
+abbrev pub title : Bool → List ℕ → List ℕ
+title true table = table_lines table
+title false table = []
 
 -- what the weights of a kind are
 abbrev pub kind_ops : Kind → Ops

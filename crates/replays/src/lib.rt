@@ -1,11 +1,15 @@
 // Captured frames replayed through a table, and the record of what a switch would emit.
 #![tactic(auto)]
 
-ghost use Rattle.std.specs.Prelude.{◌≡◌, ◌*◌, ◌≤◌, length, IfOk};
+ghost use Rattle.std.specs.Prelude.{◌≡◌, ◌*◌, ◌≤◌, length, IfOk, MatchResult};
+ghost use Rattle.faults.specs.declared.layers.TableFault.TheVariants.{Illegal, Full};
+ghost use Rattle.tables.specs.Checking.{Stops};
 ghost use Rattle.tables.specs.Emits.{sent_length};
+ghost use Rattle.tables.specs.Rows.{LegalTable};
 ghost use Rattle.replays.specs.Bytes.{words_of};
-ghost use Rattle.replays.specs.Memory.{wanted, enough, SaysRecord, Replayed};
-ghost use Rattle.replays.specs.Replays.{SaysFrame, SaysFrames, kind_ops};
+ghost use Rattle.replays.specs.Memory.{wanted, enough, SaysRecord, Replayed, LinesLength};
+ghost use Rattle.replays.specs.Replays.{SaysFrame, SaysFrames, title, kind_ops};
+ghost use Rattle.pages.specs.Pages.{Says};
 
 mod emitted;
 mod kind;
@@ -13,7 +17,7 @@ mod short;
 mod words;
 
 pub use emitted::Emitted;
-use faults::Shown;
+use faults::{Shown, TableFault};
 use frames::WIDTH;
 pub use kind::{Kind, UnknownKind};
 use lines::{Line, Table};
@@ -57,28 +61,41 @@ fn print_frames<K: WeightKind>(
     }
 }
 
+// The lines of a table, where it is to be titled.
+fn print_title(page: &mut Page<'_>, table: &[u32], titled: bool)
+    ensures { Says page.old (title titled table.now) page.new }
+{
+    if titled {
+        Table(table).print(page);
+    }
+}
+
 // There is too little room for the frames that a table emits.
 #[derive(Clone, Copy)]
 struct NoRoom;
 
-// The record of frames that go through a table of the kind K, both as words. Only a legal table needs the room.
+// The record of frames that go through a table of the kind K, or their lines alone, both as words, by what the check said of the
+// table. Only a legal table needs the room.
 fn print_replay<K: WeightKind>(
     page: &mut Page<'_>,
+    checked: Result<CheckedTable<'_, K>, TableFault>,
+    titled: bool,
     table: &[u32],
     room: &mut [u32],
     frames: &[u32],
 ) -> Result<(), NoRoom>
-    ensures { SaysRecord K.WeightKind.ops table.now frames.now (length table.now * sent_length) (length room.old) page.old result page.new }
+    requires { MatchResult checked (λ t. (t.words.now ≡ table.now) × LegalTable K.WeightKind.ops table.now) (λ e. elim e [ Illegal i ↦ Stops K.WeightKind.ops table.now i | Full ↦ ⊥ ]) }
+    ensures { SaysRecord K.WeightKind.ops (title titled table.now) table.now frames.now (length table.now * sent_length) (length room.old) page.old result page.new }
 {
-    match check_table::<K>(table) {
-        Ok(checked) => {
+    match checked {
+        Ok(legal) => {
             // Each word of a table tells of one emission at most.
             if room.len() / SENT_WORDS < table.len() {
                 return Err(NoRoom);
             }
             let room = &mut room[..table.len() * SENT_WORDS];
-            Table(table).print(page);
-            print_frames(page, &checked, room, frames)
+            print_title(page, table, titled);
+            print_frames(page, &legal, room, frames)
         }
         Err(fault) => Shown::from(fault).print(page),
     }
@@ -89,12 +106,13 @@ fn print_replay<K: WeightKind>(
 fn print_bytes(
     page: &mut Page<'_>,
     kind: Kind,
+    titled: bool,
     table: &[u8],
     frames: &[u8],
     memory: &mut [u32],
 ) -> Result<(), NoRoom>
     requires { wanted table.now frames.now ≤ length memory.old }
-    ensures { SaysRecord (kind_ops kind) (words_of table.now) (words_of frames.now) (enough table.now frames.now) (length memory.old) page.old result page.new }
+    ensures { SaysRecord (kind_ops kind) (title titled (words_of table.now)) (words_of table.now) (words_of frames.now) (enough table.now frames.now) (length memory.old) page.old result page.new }
 {
     let (table_words, memory) = memory.split_at_mut(count_words(table));
     let (frame_words, room) = memory.split_at_mut(count_words(frames));
@@ -102,8 +120,14 @@ fn print_bytes(
     read_words(frames, frame_words);
     // A kind of weights is a type and no value: so the value picks the instance here.
     match kind {
-        Kind::Reach => print_replay::<Reach>(page, table_words, room, frame_words),
-        Kind::Cost => print_replay::<Cost>(page, table_words, room, frame_words),
+        Kind::Reach => {
+            let checked = check_table::<Reach>(table_words);
+            print_replay(page, checked, titled, table_words, room, frame_words)
+        }
+        Kind::Cost => {
+            let checked = check_table::<Cost>(table_words);
+            print_replay(page, checked, titled, table_words, room, frame_words)
+        }
     }
 }
 
@@ -133,11 +157,29 @@ pub fn replay(
         return Err(Short::Words(enough));
     }
     let mut page = Page::new(out);
-    match print_bytes(&mut page, kind, table, frames, words) {
+    match print_bytes(&mut page, kind, true, table, frames, words) {
         Ok(()) => match page.finish() {
             Ok(length) => Ok(length),
             Err(length) => Err(Short::Bytes(length)),
         },
         Err(NoRoom) => Err(Short::Words(enough)),
+    }
+}
+
+// How long that record is without the lines of the table: as long as those of the frames, or as the one line of a table that is
+// refused. Where there are too few words for a replay, it is 0.
+pub fn lines_length(kind: Kind, table: &[u8], frames: &[u8], words: &mut [u32]) -> usize
+    ensures { LinesLength (kind_ops kind) table.now frames.now (length words.old) result }
+{
+    if words.len() < words_wanted(table, frames) {
+        return 0;
+    }
+    let mut page = Page::new(&mut []);
+    match print_bytes(&mut page, kind, false, table, frames, words) {
+        Ok(()) => match page.finish() {
+            Ok(length) => length,
+            Err(length) => length,
+        },
+        Err(NoRoom) => 0,
     }
 }
