@@ -19,7 +19,7 @@ const STEP: usize = 19;
 const AROUND: usize = 64;
 // Memory for all that the frames can become is lent up to so many bytes.
 const SMALL: usize = 1 << 18;
-// So few frames are not sampled, since a sample would be the greater part of them.
+// So few frames are not sampled, since a sample would be half of them or more.
 const FEW: usize = 4;
 // A table so many times as long as the frames is not checked once more for a sample.
 const WIDE: usize = 64;
@@ -29,9 +29,9 @@ const SAMPLE: usize = 1024;
 const DENSE: usize = 32;
 // One in so many is taken at least.
 const SPARSE: usize = 64;
-// Of frames that can take more bytes than so many, a sample has to meet some.
+// Where a frame can take more bytes than so many, a sample that met one or two such frames tells little of the others.
 const BROAD: usize = 1 << 15;
-// So many of them.
+// It has to have as many bytes as so many of them, and so few frames that it hardly can are not sampled.
 const SOME: usize = 4;
 
 // The most bytes that a table's lines take.
@@ -87,8 +87,8 @@ fn sample(heap: Global, frames: &[u8]) -> Result<Vec<u8>, AllocError> {
     Ok(sample)
 }
 
-// How long lines may be of which a sample has so many bytes, where a frame can take `most`. It is by so much too short, as a rule,
-// as the root of `most` and of the bytes that emitted frames have. But a few very long ones were met by chance.
+// How long lines may be of which a sample has so many bytes, where a frame can take `most`. By chance it can have fewer than the
+// others: seldom by more than the root of the product of `most` and of the bytes of its emitted frames.
 fn corrected(lines: usize, own: usize, most: usize) -> usize {
     let more = lines.saturating_sub(own);
     if most <= BROAD {
@@ -116,7 +116,8 @@ fn sampled_lines(
     Ok(lines.saturating_add(lines / 16))
 }
 
-// How long the lines of the frames are likely to be. Memory that is little beside all other is lent without a sample.
+// How long the lines of the frames are likely to be. Without a sample, little is lent: for few frames, and beside a long table as
+// much as its file has.
 fn likely_lines(
     heap: Global,
     kind: Kind,
@@ -133,6 +134,7 @@ fn likely_lines(
     if table.len() / WIDE >= frames.len() {
         return Ok(all.min(table.len()));
     }
+    // A kibibyte for each frame is lent in any case, as long as that is little.
     let least = frames.len().saturating_mul(FRAME).min(SMALL);
     if most > BROAD && count < SOME * DENSE {
         return Ok(least);
